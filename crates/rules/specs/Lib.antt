@@ -1,0 +1,13 @@
+pub mod Limits
+pub mod Lowest
+pub mod Put
+pub mod Table
+pub mod Shadow
+pub mod Answers
+pub mod Grant
+pub mod Release
+pub mod Frames
+pub mod Feed
+pub mod Calls
+pub mod Maps
+pub mod Night

@@ -1,0 +1,112 @@
+-- What the watcher holds: the paper's limits and magic bytes, each under one name.
+use Prim.Native.Nat.{ℕ}
+use mathlib.Core.Bool.{Bool, _&&_}
+use lib.Dec.{leb}
+use Rattle.rules.specs.declared.limits.Limits.{Limits}
+
+-- n is from low to high, both counted in
+abbrev pub between : ℕ → ℕ → ℕ → Bool
+between low high n = leb low n && leb n high
+
+-- a granule is 8 bytes at a multiple of 8
+abbrev pub granule : ℕ
+granule = 8
+
+-- S: the granules of the arena, and the bytes of its shadow
+abbrev pub least-granules : ℕ
+least-granules = 8
+
+abbrev pub most-granules : ℕ
+most-granules = 65_536
+
+-- the rows of the table, and the numbers in a row: start granule, size in bytes, state, turn
+abbrev pub least-rows : ℕ
+least-rows = 1
+
+abbrev pub most-rows : ℕ
+most-rows = 1_024
+
+abbrev pub row-numbers : ℕ
+row-numbers = 4
+
+-- R, in granules
+abbrev pub least-redzone : ℕ
+least-redzone = 2
+
+abbrev pub most-redzone : ℕ
+most-redzone = 256
+
+-- a frame is 18 hex digits and a line feed; 19 stands for an unfinished line of 19 bytes or more
+abbrev pub frame-digits : ℕ
+frame-digits = 18
+
+abbrev pub too-long : ℕ
+too-long = 19
+
+abbrev pub line-feed : ℕ
+line-feed = 0x0a
+
+-- an answer is 13 bytes, its line feed included
+abbrev pub answer-bytes : ℕ
+answer-bytes = 13
+
+-- a row's state
+abbrev pub empty : ℕ
+empty = 0
+
+abbrev pub live : ℕ
+live = 1
+
+abbrev pub quarantined : ℕ
+quarantined = 2
+
+-- the frame kinds
+abbrev pub kind-grant : ℕ
+kind-grant = 0x01
+
+abbrev pub kind-release : ℕ
+kind-release = 0x02
+
+abbrev pub kind-read : ℕ
+kind-read = 0x03
+
+abbrev pub kind-write : ℕ
+kind-write = 0x04
+
+-- shadow bytes: redzone or room not held; released and quarantined
+abbrev pub redzone-byte : ℕ
+redzone-byte = 0xfa
+
+abbrev pub released-byte : ℕ
+released-byte = 0xfd
+
+-- the kind of a byte that is outside the arena
+abbrev pub outside : ℕ
+outside = 0xff
+
+-- the same, as the code has them
+abbrev pub paper-limits : Limits
+paper-limits = record {
+  granule = granule;
+  «least_granules» = least-granules;
+  «most_granules» = most-granules;
+  «least_rows» = least-rows;
+  «most_rows» = most-rows;
+  «row_numbers» = row-numbers;
+  «least_redzone» = least-redzone;
+  «most_redzone» = most-redzone;
+  «frame_digits» = frame-digits;
+  «too_long» = too-long;
+  «answer_bytes» = answer-bytes;
+  empty = empty;
+  live = live;
+  quarantined = quarantined;
+  grant = kind-grant;
+  release = kind-release;
+  read = kind-read;
+  write = kind-write;
+  «redzone_byte» = redzone-byte;
+  «released_byte» = released-byte;
+  outside = outside;
+  «line_feed» = line-feed;
+}

@@ -1,0 +1,99 @@
+-- The two published address maps.
+use Prim.Native.Nat.{ℕ, _+_, _/_}
+use mathlib.Core.Bool.{Bool, true, false}
+use lib.Dec.{leb, ltb}
+use Rattle.rules.specs.declared.Answer.{Answer}
+use Rattle.rules.specs.declared.Answer.the-variants.{Done, BeyondMap, InGap}
+use Rattle.rules.specs.declared.Region.{Region}
+use Rattle.rules.specs.declared.Region.the-variants.{Nowhere, LowMem, LowShadow, ShadowGap, HighShadow, HighMem}
+use Rattle.rules.specs.declared.Mapped.{Mapped}
+use Rattle.rules.specs.Limits.{granule}
+use Rattle.rules.specs.Answers.{status}
+
+-- a map: what is added to an address / 8, the last address of each region, in the regions' order
+pub record Map : Type 0 where
+  pub offset : ℕ
+  pub low-mem : ℕ
+  pub low-shadow : ℕ
+  pub shadow-gap : ℕ
+  pub high-shadow : ℕ
+  pub high-mem : ℕ
+
+abbrev pub map32 : Map
+map32 = record {
+  offset = 0x2000_0000;
+  low-mem = 0x1fff_ffff;
+  low-shadow = 0x23ff_ffff;
+  shadow-gap = 0x27ff_ffff;
+  high-shadow = 0x3fff_ffff;
+  high-mem = 0xffff_ffff;
+}
+
+abbrev pub map64 : Map
+map64 = record {
+  offset = 0x7fff_8000;
+  low-mem = 0x7fff_7fff;
+  low-shadow = 0x8fff_6fff;
+  shadow-gap = 0x0200_8fff_6fff;
+  high-shadow = 0x1000_7fff_7fff;
+  high-mem = 0x7fff_ffff_ffff;
+}
+
+-- shadow address = address / 8 rounded down, plus the offset
+unfoldable pub shadow-address : Map → ℕ → ℕ
+shadow-address map a = a / granule + map .offset
+
+-- the region that an address is in; none beyond the last address
+unfoldable pub region : Map → ℕ → Region
+region map a =
+    elim (leb a (map .low-mem)) [
+      | true ↦ LowMem
+      | false ↦
+          elim (leb a (map .low-shadow)) [
+            | true ↦ LowShadow
+            | false ↦
+                elim (leb a (map .shadow-gap)) [
+                  | true ↦ ShadowGap
+                  | false ↦
+                      elim (leb a (map .high-shadow)) [
+                        | true ↦ HighShadow
+                        | false ↦ elim (leb a (map .high-mem)) [ true ↦ HighMem | false ↦ Nowhere ]
+                      ]
+                ]
+          ]
+    ]
+
+-- a region's number, as the call hands it back: none is 0, then the table's order
+unfoldable pub region-number : Region → ℕ
+region-number Nowhere = 0
+region-number LowMem = 1
+region-number LowShadow = 2
+region-number ShadowGap = 3
+region-number HighShadow = 4
+region-number HighMem = 5
+
+-- done, 31 where the address is in no region, 32 where it is in the gap
+unfoldable pub map-answer : Region → Answer
+map-answer Nowhere = BeyondMap
+map-answer LowMem = Done 0
+map-answer LowShadow = Done 0
+map-answer ShadowGap = InGap
+map-answer HighShadow = Done 0
+map-answer HighMem = Done 0
+
+-- 31 and 32 give shadow address 0
+unfoldable pub map-shadow : Region → ℕ → ℕ
+map-shadow Nowhere s = 0
+map-shadow LowMem s = s
+map-shadow LowShadow s = s
+map-shadow ShadowGap s = 0
+map-shadow HighShadow s = s
+map-shadow HighMem s = s
+
+-- the region and the shadow address
+unfoldable pub map-call : Map → ℕ → Mapped
+map-call map a = record {
+  status = status (map-answer (region map a));
+  region = region-number (region map a);
+  shadow = map-shadow (region map a) (shadow-address map a);
+}

@@ -1,0 +1,43 @@
+-- The shadow byte, and the range rule. A shadow is any list of numbers, one a granule.
+use Prim.Native.Nat.{ℕ, _*_, _/_, _%_}
+use mathlib.Core.Bool.{Bool, true, false, not, _&&_}
+use mathlib.Core.Option.{Option, none, some}
+use mathlib.Core.List.{List}
+use lib.ListN.{length, getD}
+use lib.Dec.{eqb, leb, ltb}
+use Rattle.rules.specs.declared.Verdict.{Verdict}
+use Rattle.rules.specs.declared.Verdict.the-variants.{Good, Bad}
+use Rattle.rules.specs.Limits.{granule, outside}
+use Rattle.rules.specs.Lowest.{lowest}
+
+-- 00: all 8 bytes addressable. 01 to 07: the first k only. Any other value: none.
+unfoldable pub leading : ℕ → ℕ
+leading v = elim (eqb v 0) [ true ↦ granule | false ↦ elim (ltb v granule) [ true ↦ v | false ↦ 0 ] ]
+
+-- the byte read as a signed byte is negative
+unfoldable pub negative : ℕ → Bool
+negative v = leb 128 v
+
+-- byte a is inside the arena of 8 x S bytes
+unfoldable pub inside : List ℕ → ℕ → Bool
+inside shadow a = ltb a (granule * length shadow)
+
+-- the shadow byte of byte a's granule
+unfoldable pub shadow-of : List ℕ → ℕ → ℕ
+shadow-of shadow a = getD shadow (a / granule) 0
+
+-- byte a is inside the arena and among its granule's addressable bytes
+unfoldable pub addressable : List ℕ → ℕ → Bool
+addressable shadow a = inside shadow a && ltb (a % granule) (leading (shadow-of shadow a))
+
+-- the kind of a bad byte: its granule's shadow byte, or ff where the byte is outside the arena
+unfoldable pub kind : List ℕ → ℕ → ℕ
+kind shadow a = elim (inside shadow a) [ true ↦ shadow-of shadow a | false ↦ outside ]
+
+-- the first of the touched bytes a to a + n - 1 that is not addressable; n = 0 touches nothing
+unfoldable pub first-bad : List ℕ → ℕ → ℕ → Option ℕ
+first-bad shadow a n = lowest (λ b. not (addressable shadow b)) n a
+
+-- the range rule, for reads and writes alike
+unfoldable pub judge : List ℕ → ℕ → ℕ → Verdict
+judge shadow a n = elim (first-bad shadow a n) [ none ↦ Good | some b ↦ Bad (kind shadow b) b ]

@@ -1,0 +1,108 @@
+// The types that every layer shares: what a session holds, what a line asks, what is answered.
+// Plain data, passed by value. What C sees is `#[repr(C)]` and holds numbers alone, since an enum
+// does not cross to C; each enum has its numbers by a definition of `specs/`.
+pub mod limits;
+
+// A session: passed by value and handed back. A closed one is all zeros.
+#[repr(C)]
+pub struct Session {
+    // S, the granules of the arena and the bytes of its shadow
+    pub granules: usize,
+    pub rows: usize,
+    // R, in granules
+    pub redzone: usize,
+    // Q, in bytes
+    pub quarantine: u32,
+    // the unfinished line's length, where 19 stands for 19 or more, and its first 18 bytes
+    pub unfinished: usize,
+    pub line: [u8; 18],
+}
+
+// An answer, a case for each row of the paper's table.
+pub enum Answer {
+    // 00
+    Done { value: u32 },
+    // 01: the line is not 18 hex digits
+    BadLine,
+    // 02: the kind is not 01 to 04
+    BadKind,
+    // 03: B is not zero in a grant or a release
+    NotZero,
+    // 05: a grant, and no row is empty
+    NoRow,
+    // 06: a grant, and no start exists
+    NoPlace,
+    // 07: a release, and no live or quarantined row starts there
+    NotHeld,
+    // 08: a release, and no live row but a quarantined one starts there
+    Released,
+    // 09: an access that is not good, with its first bad byte and the kind of that byte
+    NotGood { kind: u8, first: u32 },
+    // 21, 22, 23: an opening with such a shadow length, redzone or table length
+    BadShadowLength,
+    BadRedzone,
+    BadTableLength,
+    // 24: a later call with a session that is closed, or does not fit what is lent or its limits
+    BadSession,
+    // 31, 32: an address beyond the map's last, or in its gap
+    BeyondMap,
+    InGap,
+}
+
+// An answer in the paper's numbers.
+#[repr(C)]
+pub struct Reply {
+    pub status: u8,
+    pub kind: u8,
+    pub value: u32,
+}
+
+// What a range is found to be: good, or its first bad byte and the kind of that byte. The byte is
+// a whole number that does not wrap, so it has 64 bits.
+pub enum Verdict {
+    Good,
+    Bad { kind: u8, first: u64 },
+}
+
+// What a line asks, or the answer that refuses it.
+pub enum Frame {
+    Grant { size: u32 },
+    Release { address: u32 },
+    Read { address: u32, length: u32 },
+    Write { address: u32, length: u32 },
+    Refused(Answer),
+}
+
+// What an opening hands back: the status 00, 21, 22 or 23, and a session, closed where refused.
+#[repr(C)]
+pub struct Opened {
+    pub session: Session,
+    pub status: u8,
+}
+
+// What a feed hands back: the status 00 or 24, the session, and how many bytes were taken and written.
+#[repr(C)]
+pub struct Fed {
+    pub session: Session,
+    pub status: u8,
+    pub taken: usize,
+    pub wrote: usize,
+}
+
+// The regions of the published address maps.
+pub enum Region {
+    Nowhere,
+    LowMem,
+    LowShadow,
+    ShadowGap,
+    HighShadow,
+    HighMem,
+}
+
+// What a map hands back: the status 00, 31 or 32, the region's number, and the shadow address.
+#[repr(C)]
+pub struct Mapped {
+    pub status: u8,
+    pub region: u8,
+    pub shadow: u64,
+}
