@@ -1,6 +1,7 @@
 -- "The lowest that ..": the lowest number that passes a test, and the sum of numbers. Every search and every count of the
--- rules is one of the two, and each runs upward, as the loops do.
+-- rules is one of the two, and each runs upward, as the loops do. Assumes nothing.
 use Prim.Native.Nat.{ℕ, zero, suc, _+_}
+use mathlib.Core.Path.{_≡_, refl}
 use mathlib.Core.Bool.{Bool, true, false}
 use mathlib.Core.Option.{Option, none, some}
 
@@ -18,3 +19,25 @@ found (some a) = true
 unfoldable pub total : (ℕ → ℕ) → ℕ → ℕ
 total f zero = 0
 total f (suc n) = total f n + f n
+
+-- ---- the equations
+
+pub lowest-zero : (test : ℕ → Bool) (i : ℕ) → lowest test zero i ≡ none
+unfolding lowest
+lowest-zero test i = refl
+
+pub lowest-here : (test : ℕ → Bool) (n i : ℕ) → test i ≡ true → lowest test (suc n) i ≡ some i
+unfolding lowest
+lowest-here test n i passes = rw (passes, lowest)
+
+pub lowest-later : (test : ℕ → Bool) (n i : ℕ) → test i ≡ false → lowest test (suc n) i ≡ lowest test n (suc i)
+unfolding lowest
+lowest-later test n i fails = rw (fails, lowest)
+
+pub total-zero : (f : ℕ → ℕ) → total f zero ≡ 0
+unfolding total
+total-zero f = refl
+
+pub total-suc : (f : ℕ → ℕ) (n : ℕ) → total f (suc n) ≡ total f n + f n
+unfolding total
+total-suc f n = refl

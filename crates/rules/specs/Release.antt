@@ -1,27 +1,25 @@
 -- Release of address a, the quarantine, and evictions from it.
 use Prim.Native.Nat.{ℕ, zero, suc, _+_, _*_}
+use mathlib.Core.Path.{_≡_, refl}
 use mathlib.Core.Bool.{Bool, true, false, _&&_}
 use mathlib.Core.Option.{Option, none, some}
 use mathlib.Core.List.{List}
 use lib.Dec.{eqb, ltb}
 use Rattle.rules.specs.declared.Answer.{Answer}
 use Rattle.rules.specs.declared.Answer.the-variants.{Done, NotHeld, Released}
-use Rattle.rules.specs.Limits.{granule, redzone-byte, released-byte, empty, quarantined}
+use Rattle.rules.specs.Limits.{granule, redzone-byte, released-byte, empty, live, quarantined}
 use Rattle.rules.specs.Lowest.{lowest, total}
 use Rattle.rules.specs.Put.{fill}
-use Rattle.rules.specs.Table.{rows, start, size, turn, is-live, is-quarantined, put-row, lessened}
+use Rattle.rules.specs.Table.{rows, start, size, state, turn, is-quarantined, put-row, lessened}
 use Rattle.rules.specs.Grant.{Acted, kept, granules}
 
 -- row i starts at address a: 8 x start as a whole number, which does not wrap
 unfoldable pub starts-at : List ℕ → ℕ → ℕ → Bool
 starts-at table a i = eqb (granule * start table i) a
 
--- the lowest live row that starts at a; the lowest quarantined one
-unfoldable pub live-row : List ℕ → ℕ → Option ℕ
-live-row table a = lowest (λ i. is-live table i && starts-at table a i) (rows table) 0
-
-unfoldable pub quarantined-row : List ℕ → ℕ → Option ℕ
-quarantined-row table a = lowest (λ i. is-quarantined table i && starts-at table a i) (rows table) 0
+-- the lowest row of a state that starts at a
+unfoldable pub row-at : ℕ → List ℕ → ℕ → Option ℕ
+row-at wanted table a = lowest (λ i. eqb (state table i) wanted && starts-at table a i) (rows table) 0
 
 -- a number for each quarantined row, and 0 for every other
 unfoldable pub if-quarantined : List ℕ → (ℕ → ℕ) → ℕ → ℕ
@@ -48,6 +46,18 @@ older table (some i) n = elim (ltb (turn table n) (turn table i)) [ true ↦ n |
 unfoldable pub oldest : List ℕ → ℕ → Option ℕ
 oldest table zero = none
 oldest table (suc n) = elim (is-quarantined table n) [ true ↦ some (older table (oldest table n) n) | false ↦ oldest table n ]
+
+pub oldest-zero : (table : List ℕ) → oldest table zero ≡ none
+unfolding oldest
+oldest-zero table = refl
+
+pub oldest-here : (table : List ℕ) (n : ℕ) → is-quarantined table n ≡ true → oldest table (suc n) ≡ some (older table (oldest table n) n)
+unfolding oldest
+oldest-here table n e = rw (e, oldest)
+
+pub oldest-other : (table : List ℕ) (n : ℕ) → is-quarantined table n ≡ false → oldest table (suc n) ≡ oldest table n
+unfolding oldest
+oldest-other table n e = rw (e, oldest)
 
 -- shadow and table, which releases and evictions change together
 pub record Pool : Type 0 where
@@ -77,7 +87,8 @@ pub record Settled : Type 0 where
 abbrev pub and-one-more : Settled → Settled
 and-one-more settled = record { pool = settled .pool; evicted = settled .evicted + 1 }
 
--- while the weights sum to more than Q, the oldest is evicted; each eviction leaves one fewer quarantined, so that many are enough
+-- while the weights sum to more than Q, the oldest is evicted; each eviction leaves one fewer quarantined, so as many turns as
+-- are quarantined are enough: `settle-done` and `settle-more`, in the laws, are the equations, and nothing else looks at the count
 unfoldable pub settle-in : ℕ → ℕ → ℕ → Pool → Settled
 settle-in zero R Q pool = record { pool = pool; evicted = 0 }
 settle-in (suc left) R Q pool =
@@ -108,8 +119,8 @@ release R Q shadow table a =
     elim (eqb a 0) [
       | true ↦ kept (Done 0) shadow table
       | false ↦
-          elim (live-row table a) [
+          elim (row-at live table a) [
             | some i ↦ release-row R Q (record { shadow = shadow; table = table }) i
-            | none ↦ elim (quarantined-row table a) [ some i ↦ kept Released shadow table | none ↦ kept NotHeld shadow table ]
+            | none ↦ elim (row-at quarantined table a) [ some i ↦ kept Released shadow table | none ↦ kept NotHeld shadow table ]
           ]
     ]

@@ -4,7 +4,11 @@ use mathlib.Core.Bool.{Bool, true, false, not, _&&_}
 use mathlib.Core.Option.{Option, none, some}
 use mathlib.Core.List.{List}
 use lib.ListN.{length, getD}
-use lib.Dec.{eqb, leb, ltb}
+use lib.Dec.{eqb, ltb}
+use lib.IntN.{ℤ, pos}
+use lib.Signed.{ltZ}
+use mir.Syntax.{w8}
+use mir.Val.{toZ}
 use Rattle.rules.specs.declared.Verdict.{Verdict}
 use Rattle.rules.specs.declared.Verdict.the-variants.{Good, Bad}
 use Rattle.rules.specs.Limits.{granule, outside}
@@ -14,9 +18,12 @@ use Rattle.rules.specs.Lowest.{lowest}
 unfoldable pub leading : ℕ → ℕ
 leading v = elim (eqb v 0) [ true ↦ granule | false ↦ elim (ltb v granule) [ true ↦ v | false ↦ 0 ] ]
 
--- the byte read as a signed byte is negative
+-- the byte is read as a signed byte, and negative means poisoned
+unfoldable pub signed : ℕ → ℤ
+signed v = toZ w8 v
+
 unfoldable pub negative : ℕ → Bool
-negative v = leb 128 v
+negative v = ltZ (signed v) (pos 0)
 
 -- byte a is inside the arena of 8 x S bytes
 unfoldable pub inside : List ℕ → ℕ → Bool

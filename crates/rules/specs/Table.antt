@@ -1,5 +1,6 @@
 -- The table: rows of four numbers, start granule, size in bytes, state and turn. A table is any list of numbers, scribbled ones too.
 use Prim.Native.Nat.{ℕ, zero, suc, _+_, _-_, _*_, _/_}
+use mathlib.Core.Path.{_≡_, refl}
 use mathlib.Core.Bool.{Bool}
 use mathlib.Core.List.{List, [], _∷_}
 use lib.ListN.{length, getD, set}
@@ -45,3 +46,13 @@ is-quarantined table i = eqb (state table i) quarantined
 unfoldable pub lessened : List ℕ → ℕ → List ℕ
 lessened table zero = table
 lessened table (suc n) = set (lessened table n) (row-numbers * n + 3) (turn table n - 1)
+
+-- ---- the equations
+
+pub lessened-zero : (table : List ℕ) → lessened table zero ≡ table
+unfolding lessened
+lessened-zero table = refl
+
+pub lessened-suc : (table : List ℕ) (n : ℕ) → lessened table (suc n) ≡ set (lessened table n) (row-numbers * n + 3) (turn table n - 1)
+unfolding lessened
+lessened-suc table n = refl

@@ -1,0 +1,241 @@
+-- The laws of a grant: its place is the lowest that keeps the redzone on both sides, 05 and 06 have exact conditions, lengths stay,
+-- and no row but an empty one is touched. Assumes nothing.
+use Prim.Native.Nat.{ℕ, zero, suc, _+_, _-_, _*_, _/_, _%_, _≤_, _<_, zero-le}
+use native.Mathlib.Omega.{arith}
+use mathlib.Core.Path.{_≡_, refl, sym, ap, subst, _∙_}
+use mathlib.Core.Logic.{_≢_}
+use mathlib.Core.Bool.{Bool, true, false, not, true≢false}
+use mathlib.Core.Option.{Option, none, some, Option·none-ne-some}
+use mathlib.Core.List.{List, [], _∷_, _++_}
+use lib.ListN.{length, getD, replicate, length-append, length-replicate, getD-replicate, List·getD-append}
+use lib.Seq.{getD-append-add}
+use lib.Dec.{eqb}
+use borrow.Author.Tests.{eqb-true, eqb-false, eq-eqb, ne-eqb, not-true, not-false}
+use Rattle.rules.specs.declared.Answer.{Answer}
+use Rattle.rules.specs.declared.Answer.the-variants.{Done, NoRow, NoPlace}
+use Rattle.rules.specs.Limits.{granule, redzone-byte, row-numbers, empty, live}
+use Rattle.rules.specs.Lowest.{lowest, found}
+use Rattle.rules.specs.Put.{put}
+use Rattle.rules.specs.Table.{rows, column, state, is-empty, put-row}
+use Rattle.rules.specs.Grant.{Acted, kept, counted, granules, all-free, fits, place, last-granule, granted, empty-row, grant-at, grant}
+use Rattle.rules.proofs.Lowest.{by-found, Lowest, lowest-some, lowest-none, lowest-no, below-all}
+use Rattle.rules.proofs.Put.{length-put}
+use Rattle.rules.proofs.Table.{length-put-row, column-put-row, column-put-row-other}
+
+-- ---- sizes
+
+pub counted-zero : counted 0 ≡ 1
+unfolding counted
+counted-zero = refl
+
+pub counted-above : (s : ℕ) → 0 < s → counted s ≡ s
+unfolding counted
+counted-above s above = omega arith
+
+pub counted-least : (s : ℕ) → 0 < counted s
+unfolding counted
+counted-least s = omega arith
+
+-- u granules hold s bytes, and u - 1 do not
+pub granules-enough : (s : ℕ) → s ≤ granule * granules s
+unfolding granules
+granules-enough s = omega arith
+
+pub granules-least : (s : ℕ) → granule * granules s < s + granule
+unfolding granules
+granules-least s = omega arith
+
+pub granules-above : (s : ℕ) → 0 < s → 0 < granules s
+unfolding granules
+granules-above s above = omega arith
+
+-- ---- a window
+
+-- every shadow byte from i to e - 1 is fa
+abbrev pub AllFree : List ℕ → ℕ → ℕ → Type 0
+AllFree shadow i e = (k : ℕ) → i ≤ k → k < e → getD shadow k 0 ≡ redzone-byte
+
+pub all-free-true : (shadow : List ℕ) (i n : ℕ) → all-free shadow i n ≡ true → AllFree shadow i (i + n)
+unfolding all-free
+all-free-true shadow i n e k from below =
+    by-found (lowest (λ j. not (eqb (getD shadow j 0) redzone-byte)) n i)
+    (λ b f. absurd (true≢false (sym e ∙ ap (λ o. not (found o)) f)))
+    (λ f.
+    eqb-true (getD shadow k 0) redzone-byte
+    (not-false (eqb (getD shadow k 0) redzone-byte) (lowest-none (λ j. not (eqb (getD shadow j 0) redzone-byte)) n i f k from below)))
+
+pub all-free-is : (shadow : List ℕ) (i n : ℕ) → AllFree shadow i (i + n) → all-free shadow i n ≡ true
+unfolding all-free
+all-free-is shadow i n free =
+    ap (λ o. not (found o))
+    (lowest-no (λ j. not (eqb (getD shadow j 0) redzone-byte)) n i
+    (λ k from below. ap not (eq-eqb (getD shadow k 0) redzone-byte (free k from below))))
+
+-- ---- the place
+
+-- a block of u granules at p keeps R granules of redzone on both sides
+pub record Fits (shadow : List ℕ) (R u p : ℕ) : Type 0 where
+  pub low : R ≤ p
+  pub high : p + u + R ≤ length shadow
+  pub free : AllFree shadow (p - R) (p + u + R)
+
+-- p is the lowest place
+pub record Place (shadow : List ℕ) (R u p : ℕ) : Type 0 where
+  pub fits : Fits shadow R u p
+  pub lowest : (q : ℕ) → q < p → Fits shadow R u q → ⊥
+
+fits-window : (R u p : ℕ) → R ≤ p → p - R + (R + u + R) ≡ p + u + R
+fits-window R u p low = omega arith
+
+fits-true : (shadow : List ℕ) (R u p : ℕ) → R ≤ p → p + u + R ≤ length shadow → fits shadow R u p ≡ true → Fits shadow R u p
+unfolding fits
+fits-true shadow R u p low high e = record {
+  low = low;
+  high = high;
+  free = subst (λ w. AllFree shadow (p - R) w) (fits-window R u p low) (all-free-true shadow (p - R) (R + u + R) e);
+}
+
+fits-is : (shadow : List ℕ) (R u p : ℕ) → Fits shadow R u p → fits shadow R u p ≡ true
+unfolding fits
+fits-is shadow R u p f =
+    all-free-is shadow (p - R) (R + u + R)
+    (subst (λ w. AllFree shadow (p - R) w) (sym (fits-window R u p (f .low))) (f .free))
+
+pub place-some : (shadow : List ℕ) (R u p : ℕ) → place shadow R u ≡ some p → Place shadow R u p
+unfolding place
+place-some shadow R u p e =
+    let n : ℕ = length shadow + 1 - (R + u + R) in
+    let l : Lowest (fits shadow R u) n R p = lowest-some (fits shadow R u) n R p e in
+    record {
+      fits = fits-true shadow R u p (l .from) (let b : p < R + n = l .below in omega arith) (l .passes);
+      lowest = λ q less f. true≢false (sym (fits-is shadow R u q f) ∙ l .first q (f .low) less);
+    }
+
+pub place-none : (shadow : List ℕ) (R u : ℕ) → place shadow R u ≡ none → (p : ℕ) → Fits shadow R u p → ⊥
+unfolding place
+place-none shadow R u e p f =
+    true≢false
+    (sym (fits-is shadow R u p f)
+    ∙ lowest-none (fits shadow R u) (length shadow + 1 - (R + u + R)) R e p (f .low) (let high : p + u + R ≤ length shadow = f .high in omega arith))
+
+pub place-is : (shadow : List ℕ) (R u p : ℕ) → Place shadow R u p → place shadow R u ≡ some p
+place-is shadow R u p l =
+    by-found (place shadow R u)
+    (λ q e.
+    let k : Place shadow R u q = place-some shadow R u q e in
+    let not-above : p < q → ⊥ = λ less. k .lowest p less (l .fits) in
+    let not-below : q < p → ⊥ = λ less. l .lowest q less (k .fits) in
+    e ∙ ap some (omega arith))
+    (λ e. absurd (place-none shadow R u e p (l .fits)))
+
+pub place-no : (shadow : List ℕ) (R u : ℕ) → ((p : ℕ) → Fits shadow R u p → ⊥) → place shadow R u ≡ none
+place-no shadow R u nowhere =
+    by-found (place shadow R u) (λ q e. absurd (nowhere q (place-some shadow R u q e .fits))) (λ e. e)
+
+-- ---- what is painted
+
+length-last : (k : ℕ) → k < granule → length (last-granule k) ≡ (k + 7) / granule
+unfolding last-granule
+length-last zero below = refl
+length-last (suc k) below = omega arith
+
+length-zeros : (n : ℕ) → length (replicate {A = ℕ} n 0) ≡ n
+length-zeros n = length-replicate n 0
+
+-- a granted block has a shadow byte for each of its granules
+pub length-granted : (s : ℕ) → length (granted s) ≡ granules s
+unfolding granted granules
+length-granted s =
+    length-append (replicate (s / granule) 0) (last-granule (s % granule))
+    ∙ (let rest : length (last-granule (s % granule)) ≡ (s % granule + 7) / granule = length-last (s % granule) (omega arith) in
+    omega (arith, length-zeros (s / granule)))
+
+-- whole granules are 00
+pub granted-whole : (s k : ℕ) → k < s / granule → getD (granted s) k 0 ≡ 0
+unfolding granted
+granted-whole s k below =
+    List·getD-append (replicate (s / granule) 0) (last-granule (s % granule)) 0 k
+    (omega (arith, length-zeros (s / granule)))
+    ∙ getD-replicate (s / granule) k 0 0 below
+
+getD-last : (k : ℕ) → getD (last-granule k) 0 0 ≡ k
+unfolding last-granule
+getD-last zero = refl
+getD-last (suc k) = refl
+
+-- a remainder is in the last one
+pub granted-last : (s : ℕ) → getD (granted s) (s / granule) 0 ≡ s % granule
+unfolding granted
+granted-last s =
+    let e : length (replicate {A = ℕ} (s / granule) 0) + 0 ≡ s / granule = omega (arith, length-zeros (s / granule)) in
+    ap (λ m. getD (replicate (s / granule) 0 ++ last-granule (s % granule)) m 0) (sym e)
+    ∙ getD-append-add (replicate (s / granule) 0) (last-granule (s % granule)) 0 0
+    ∙ getD-last (s % granule)
+
+-- ---- the row
+
+pub empty-row-some : (table : List ℕ) (i : ℕ) → empty-row table ≡ some i → Lowest (is-empty table) (rows table) 0 i
+unfolding empty-row
+empty-row-some table i e = lowest-some (is-empty table) (rows table) 0 i e
+
+pub empty-row-none : (table : List ℕ) → empty-row table ≡ none → (i : ℕ) → i < rows table → state table i ≢ empty
+unfolding empty-row
+empty-row-none table e i below is-zero =
+    true≢false (sym (eq-eqb (state table i) empty is-zero) ∙ lowest-none (is-empty table) (rows table) 0 e i zero-le (omega arith))
+
+-- ---- a grant
+
+pub grant-no-row : (R : ℕ) (shadow table : List ℕ) (s : ℕ) → empty-row table ≡ none → grant R shadow table s ≡ kept NoRow shadow table
+unfolding grant
+grant-no-row R shadow table s e = rw (e, grant)
+
+pub grant-no-place : (R : ℕ) (shadow table : List ℕ) (s i : ℕ) → empty-row table ≡ some i → place shadow R (granules (counted s)) ≡ none
+    → grant R shadow table s ≡ kept NoPlace shadow table
+unfolding grant
+grant-no-place R shadow table s i row e = rw (row, grant) (rw (e))
+
+pub grant-done : (R : ℕ) (shadow table : List ℕ) (s i p : ℕ) → empty-row table ≡ some i → place shadow R (granules (counted s)) ≡ some p
+    → grant R shadow table s ≡ grant-at shadow table (counted s) i p
+unfolding grant
+grant-done R shadow table s i p row e = rw (row, grant) (rw (e))
+
+-- a place for a block leaves its granules inside the shadow
+place-inside : (R : ℕ) (shadow : List ℕ) (s p : ℕ) → place shadow R (granules s) ≡ some p → p + length (granted s) ≤ length shadow
+place-inside R shadow s p e =
+    let f : Fits shadow R (granules s) p = place-some shadow R (granules s) p e .fits in
+    let high : p + granules s + R ≤ length shadow = f .high in
+    omega (arith, length-granted s)
+
+-- lengths are kept
+abbrev pub SameLengths : List ℕ → List ℕ → Acted → Type 0
+SameLengths shadow table acted = (length (acted .shadow) ≡ length shadow) × (length (acted .table) ≡ length table)
+
+pub grant-lengths : (R : ℕ) (shadow table : List ℕ) (s : ℕ) → SameLengths shadow table (grant R shadow table s)
+unfolding grant-at
+grant-lengths R shadow table s =
+    by-found (empty-row table)
+    (λ i row.
+    by-found (place shadow R (granules (counted s)))
+    (λ p e.
+    subst (SameLengths shadow table) (sym (grant-done R shadow table s i p row e)) (
+      length-put shadow p (granted (counted s)) (place-inside R shadow (counted s) p e),
+      length-put-row table i p (counted s) live 0 (below-all (empty-row-some table i row)),
+    ))
+    (λ e. subst (SameLengths shadow table) (sym (grant-no-place R shadow table s i row e)) (refl, refl)))
+    (λ row. subst (SameLengths shadow table) (sym (grant-no-row R shadow table s row)) (refl, refl))
+
+-- a grant never evicts: a row that is not empty stands as it did
+pub grant-keeps : (R : ℕ) (shadow table : List ℕ) (s k j : ℕ) → k < row-numbers → state table j ≢ empty
+    → column k (grant R shadow table s .table) j ≡ column k table j
+unfolding grant-at
+grant-keeps R shadow table s k j in-row held =
+    by-found (empty-row table)
+    (λ i row.
+    let l : Lowest (is-empty table) (rows table) 0 i = empty-row-some table i row in
+    by-found (place shadow R (granules (counted s)))
+    (λ p e.
+    ap (λ acted. column k (acted .table) j) (grant-done R shadow table s i p row e)
+    ∙ column-put-row-other table i p (counted s) live 0 (below-all l) k j in-row
+    (λ same. held (ap (state table) same ∙ eqb-true (state table i) empty (l .passes))))
+    (λ e. ap (λ acted. column k (acted .table) j) (grant-no-place R shadow table s i row e)))
+    (λ row. ap (λ acted. column k (acted .table) j) (grant-no-row R shadow table s row))

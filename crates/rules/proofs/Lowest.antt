@@ -1,0 +1,177 @@
+-- The laws of `lowest` and `total`: what is found is the lowest that passes, none is found exactly where none passes, and a sum
+-- changes by what one of its numbers changes by. Assumes nothing.
+use Prim.Native.Nat.{ℕ, zero, suc, _+_, _≤_, _<_, zero-le}
+use native.Mathlib.Nat.{eq-or-lt-of-le, not-suc-le-zero}
+use native.Mathlib.Decide.{decLt}
+use native.Mathlib.Omega.{arith}
+use mathlib.Core.Path.{_≡_, refl, sym, ap, ap₂, subst, _∙_}
+use mathlib.Core.Logic.{_≢_, ⊎-elim}
+use mathlib.Core.Bool.{Bool, true, false, true≢false}
+use mathlib.Core.Option.{Option, none, some, Option·some-injective, Option·none-ne-some}
+use Rattle.rules.specs.Lowest.{lowest, total, lowest-zero, lowest-here, lowest-later, total-zero, total-suc}
+
+-- a choice by a test whose value is known
+pub if-true {ℓ} : {A : Type ℓ} {t : Bool} (a b : A) → t ≡ true → (elim t as (λ _. A) [ true ↦ a | false ↦ b ]) ≡ a
+if-true {A} a b e = ap (λ (c : Bool). elim c as (λ _. A) [ true ↦ a | false ↦ b ]) e
+
+pub if-false {ℓ} : {A : Type ℓ} {t : Bool} (a b : A) → t ≡ false → (elim t as (λ _. A) [ true ↦ a | false ↦ b ]) ≡ b
+if-false {A} a b e = ap (λ (c : Bool). elim c as (λ _. A) [ true ↦ a | false ↦ b ]) e
+
+-- by the two values of a test, each with its equation
+pub by-test {ℓ} : {P : Type ℓ} (t : Bool) → (t ≡ true → P) → (t ≡ false → P) → P
+by-test true passes fails = passes refl
+by-test false passes fails = fails refl
+
+-- by what was found, each with its equation
+pub by-found {ℓ} : {P : Type ℓ} (o : Option ℕ) → ((k : ℕ) → o ≡ some k → P) → (o ≡ none → P) → P
+by-found (some k) one nothing = one k refl
+by-found none one nothing = nothing refl
+
+-- by the order of two numbers
+pub by-order {ℓ} : {P : Type ℓ} (j k : ℕ) → (j < k → P) → (k ≤ j → P) → P
+by-order j k less more = elim (decLt j k) [ yes h ↦ less h | no h ↦ more (omega arith) ]
+
+-- ---- lowest
+
+-- k is the lowest of the n numbers from i on that passes the test
+pub record Lowest (test : ℕ → Bool) (n i k : ℕ) : Type 0 where
+  pub from : i ≤ k
+  pub below : k < i + n
+  pub passes : test k ≡ true
+  pub first : (j : ℕ) → i ≤ j → j < k → test j ≡ false
+
+-- of the n numbers from 0 on, one below n
+pub below-all : {test : ℕ → Bool} {n k : ℕ} → Lowest test n 0 k → k < n
+below-all {n = n} {k = k} l = let below : k < 0 + n = l .below in omega arith
+
+-- none of them passes
+abbrev pub NonePasses : (ℕ → Bool) → ℕ → ℕ → Type 0
+NonePasses test n i = (j : ℕ) → i ≤ j → j < i + n → test j ≡ false
+
+-- what holds of i and of every number after it holds from i on
+from-here : (P : ℕ → Type 0) (i : ℕ) → P i → (k : ℕ) → ((j : ℕ) → suc i ≤ j → j < k → P j) → (j : ℕ) → i ≤ j → j < k → P j
+from-here P i here k above j from below =
+    ⊎-elim (λ same. subst P same here) (λ less. above j less below) (eq-or-lt-of-le from)
+
+pub lowest-some : (test : ℕ → Bool) (n i k : ℕ) → lowest test n i ≡ some k → Lowest test n i k
+lowest-some test zero i k e = absurd (Option·none-ne-some k (sym (lowest-zero test i) ∙ e))
+lowest-some test (suc n) i k e =
+    by-test (test i)
+    (λ passes.
+    subst (λ m. Lowest test (suc n) i m) (Option·some-injective i k (sym (lowest-here test n i passes) ∙ e))
+    (record { from = omega arith; below = omega arith; passes = passes; first = λ j a b. absurd (omega arith) }))
+    (λ fails.
+    let above : Lowest test n (suc i) k = lowest-some test n (suc i) k (sym (lowest-later test n i fails) ∙ e) in
+    record { from = omega arith; below = omega arith; passes = above .passes; first = from-here (λ m. test m ≡ false) i fails k (above .first) })
+
+pub lowest-none : (test : ℕ → Bool) (n i : ℕ) → lowest test n i ≡ none → NonePasses test n i
+lowest-none test zero i e j from below = absurd (omega arith)
+lowest-none test (suc n) i e j from below =
+    by-test (test i)
+    (λ passes. absurd (Option·none-ne-some i (sym e ∙ lowest-here test n i passes)))
+    (λ fails.
+    from-here (λ m. test m ≡ false) i fails (suc i + n)
+    (lowest-none test n (suc i) (sym (lowest-later test n i fails) ∙ e)) j from (omega arith))
+
+not-below : {test : ℕ → Bool} {n i j k : ℕ} → Lowest test n i j → Lowest test n i k → j < k → ⊥
+not-below {j = j} a b less = true≢false (sym (a .passes) ∙ b .first j (a .from) less)
+
+-- no second number fits
+pub lowest-unique : {test : ℕ → Bool} {n i j k : ℕ} → Lowest test n i j → Lowest test n i k → j ≡ k
+lowest-unique {j = j} {k = k} a b =
+    let up : j < k → ⊥ = not-below a b in
+    let down : k < j → ⊥ = not-below b a in
+    omega arith
+
+pub lowest-is : (test : ℕ → Bool) (n i k : ℕ) → Lowest test n i k → lowest test n i ≡ some k
+lowest-is test n i k l =
+    by-found (lowest test n i)
+    (λ j e. e ∙ ap some (lowest-unique (lowest-some test n i j e) l))
+    (λ e. absurd (true≢false (sym (l .passes) ∙ lowest-none test n i e k (l .from) (l .below))))
+
+pub lowest-no : (test : ℕ → Bool) (n i : ℕ) → NonePasses test n i → lowest test n i ≡ none
+lowest-no test n i fails =
+    by-found (lowest test n i)
+    (λ j e.
+    let l : Lowest test n i j = lowest-some test n i j e in
+    absurd (true≢false (sym (l .passes) ∙ fails j (l .from) (l .below))))
+    (λ e. e)
+
+-- two tests that agree on those numbers find the same
+pub lowest-same : (test other : ℕ → Bool) (n i : ℕ) → ((j : ℕ) → i ≤ j → j < i + n → test j ≡ other j)
+    → lowest test n i ≡ lowest other n i
+lowest-same test other zero i same = lowest-zero test i ∙ sym (lowest-zero other i)
+lowest-same test other (suc n) i same =
+    let here : test i ≡ other i = same i (omega arith) (omega arith) in
+    by-test (test i)
+    (λ passes. lowest-here test n i passes ∙ sym (lowest-here other n i (sym here ∙ passes)))
+    (λ fails.
+    lowest-later test n i fails
+    ∙ lowest-same test other n (suc i) (λ j a b. same j (omega arith) (omega arith))
+    ∙ sym (lowest-later other n i (sym here ∙ fails)))
+
+-- where the first n fail, what is found is found among those after them
+pub lowest-skip : (test : ℕ → Bool) (n m i : ℕ) → NonePasses test n i → lowest test (n + m) i ≡ lowest test m (i + n)
+lowest-skip test n m i fails =
+    by-found (lowest test m (i + n))
+    (λ k e.
+    let l : Lowest test m (i + n) k = lowest-some test m (i + n) k e in
+    lowest-is test (n + m) i k
+    (record {
+      from = omega arith;
+      below = omega arith;
+      passes = l .passes;
+      first = λ j a b. by-order j (i + n) (λ less. fails j a less) (λ more. l .first j more b);
+    })
+    ∙ sym e)
+    (λ e.
+    lowest-no test (n + m) i
+    (λ j a b. by-order j (i + n) (λ less. fails j a less) (λ more. lowest-none test m (i + n) e j more (omega arith)))
+    ∙ sym e)
+
+-- ---- total
+
+-- two sums of the same numbers
+pub total-same : (f g : ℕ → ℕ) (n : ℕ) → ((j : ℕ) → j < n → f j ≡ g j) → total f n ≡ total g n
+total-same f g zero same = total-zero f ∙ sym (total-zero g)
+total-same f g (suc n) same =
+    total-suc f n
+    ∙ ap₂ (λ a b. a + b) (total-same f g n (λ j l. same j (omega arith))) (same n (omega arith))
+    ∙ sym (total-suc g n)
+
+-- two sums that differ at one number k differ by as much
+pub total-change : (f g : ℕ → ℕ) (n k : ℕ) → k < n → ((j : ℕ) → j ≢ k → f j ≡ g j) → total f n + g k ≡ total g n + f k
+total-change f g zero k l same = absurd (not-suc-le-zero l)
+total-change f g (suc n) k l same =
+    let f-here : total f (suc n) ≡ total f n + f n = total-suc f n in
+    let g-here : total g (suc n) ≡ total g n + g n = total-suc g n in
+    by-order k n
+    (λ less.
+    let before : total f n + g k ≡ total g n + f k = total-change f g n k less same in
+    let here : f n ≡ g n = same n (λ e. absurd (omega arith)) in
+    omega arith)
+    (λ more.
+    let last : k ≡ n = omega arith in
+    let before : total f n ≡ total g n = total-same f g n (λ j b. same j (λ e. absurd (omega arith))) in
+    let f-last : f k ≡ f n = ap f last in
+    let g-last : g k ≡ g n = ap g last in
+    omega arith)
+
+-- each number is at most the sum
+pub le-total : (f : ℕ → ℕ) (n k : ℕ) → k < n → f k ≤ total f n
+le-total f zero k l = absurd (not-suc-le-zero l)
+le-total f (suc n) k l =
+    let here : total f (suc n) ≡ total f n + f n = total-suc f n in
+    by-order k n
+    (λ less. let before : f k ≤ total f n = le-total f n k less in omega arith)
+    (λ more. let last : f k ≡ f n = ap f (omega arith) in omega arith)
+
+-- a sum above 0 has a number above 0
+pub total-above : (f : ℕ → ℕ) (n : ℕ) → 0 < total f n → (k : ℕ) × (k < n) × (0 < f k)
+total-above f zero l = absurd (not-suc-le-zero (subst (λ m. 0 < m) (total-zero f) l))
+total-above f (suc n) l =
+    by-order 0 (f n)
+    (λ here. (n, omega arith, here))
+    (λ none-here.
+    let before : (k : ℕ) × (k < n) × (0 < f k) = total-above f n (let e : total f (suc n) ≡ total f n + f n = total-suc f n in omega arith) in
+    (before .0, (let b : before .0 < n = before .1 in omega arith), before .2))

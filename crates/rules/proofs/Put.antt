@@ -1,0 +1,107 @@
+-- The laws of `put` and `fill`: the length stays, what is put stands in its place, and all else stands as it did. Assumes nothing.
+use Prim.Native.Nat.{ℕ, _+_, _-_, _≤_, _<_, min}
+use native.Mathlib.Nat.{add-zero}
+use native.Mathlib.Omega.{arith}
+use mathlib.Core.Path.{_≡_, sym, ap, _∙_}
+use mathlib.Core.List.{List, [], _++_, append-assoc}
+use lib.ListN.{length, getD, take, drop, replicate, length-append, length-drop, length-replicate, take-append-drop, getD-replicate, List·getD-append}
+use lib.Seq.{length-take-le, getD-append-add, getD-take, getD-drop, sets, sets-eq}
+use Rattle.rules.specs.Put.{put, fill}
+use Rattle.rules.proofs.Lowest.{by-order}
+
+-- ---- put
+
+pub put-nothing : (whole : List ℕ) (at : ℕ) → put whole at [] ≡ whole
+unfolding put
+put-nothing whole at = rw add-zero (take-append-drop at whole)
+
+pub length-put : (whole : List ℕ) (at : ℕ) (part : List ℕ) → at + length part ≤ length whole → length (put whole at part) ≡ length whole
+unfolding put
+length-put whole at part room =
+    let front : length (take at whole) ≡ at = length-take-le at whole (omega arith) in
+    simp (length-append, length-drop) (omega arith)
+
+-- in a buffer that has the room, as many stores
+pub put-sets : (whole : List ℕ) (at : ℕ) (part : List ℕ) → at + length part ≤ length whole → put whole at part ≡ sets whole at part
+unfolding put
+put-sets whole at part room = sym (append-assoc (take at whole) part (drop (at + length part) whole)) ∙ sym (sets-eq part whole at room)
+
+pub put-in : (whole : List ℕ) (at : ℕ) (part : List ℕ) (k d : ℕ) → at ≤ length whole → k < length part
+    → getD (put whole at part) (at + k) d ≡ getD part k d
+unfolding put
+put-in whole at part k d room in-part =
+    let front : length (take at whole) ≡ at = length-take-le at whole room in
+    ap (λ m. getD (take at whole ++ (part ++ drop (at + length part) whole)) (m + k) d) (sym front)
+    ∙ getD-append-add (take at whole) (part ++ drop (at + length part) whole) k d
+    ∙ List·getD-append part (drop (at + length part) whole) d k in-part
+
+pub put-before : (whole : List ℕ) (at : ℕ) (part : List ℕ) (k d : ℕ) → at ≤ length whole → k < at
+    → getD (put whole at part) k d ≡ getD whole k d
+unfolding put
+put-before whole at part k d room before =
+    let front : length (take at whole) ≡ at = length-take-le at whole room in
+    List·getD-append (take at whole) (part ++ drop (at + length part) whole) d k (omega arith)
+    ∙ getD-take at whole k d before
+
+put-past : (whole : List ℕ) (at : ℕ) (part : List ℕ) (k d : ℕ) → at ≤ length whole
+    → getD (put whole at part) (at + (length part + k)) d ≡ getD whole (at + length part + k) d
+unfolding put
+put-past whole at part k d room =
+    let front : length (take at whole) ≡ at = length-take-le at whole room in
+    ap (λ m. getD (take at whole ++ (part ++ drop (at + length part) whole)) (m + (length part + k)) d) (sym front)
+    ∙ getD-append-add (take at whole) (part ++ drop (at + length part) whole) (length part + k) d
+    ∙ getD-append-add part (drop (at + length part) whole) k d
+    ∙ getD-drop (at + length part) whole k d
+
+pub put-after : (whole : List ℕ) (at : ℕ) (part : List ℕ) (k d : ℕ) → at ≤ length whole → at + length part ≤ k
+    → getD (put whole at part) k d ≡ getD whole k d
+put-after whole at part k d room after =
+    let far : at + (length part + (k - (at + length part))) ≡ k = omega arith in
+    let near : at + length part + (k - (at + length part)) ≡ k = omega arith in
+    ap (λ m. getD (put whole at part) m d) (sym far)
+    ∙ put-past whole at part (k - (at + length part)) d room
+    ∙ ap (λ m. getD whole m d) near
+
+-- ---- fill
+
+-- past the end nothing exists
+pub fill-past : (whole : List ℕ) (at n v : ℕ) → length whole ≤ at → fill whole at n v ≡ whole
+unfolding fill
+fill-past whole at n v past =
+    let nothing : min n (length whole - at) ≡ 0 = omega arith in
+    rw nothing (put-nothing whole at)
+
+pub length-fill : (whole : List ℕ) (at n v : ℕ) → length (fill whole at n v) ≡ length whole
+unfolding fill
+length-fill whole at n v =
+    by-order at (length whole)
+    (λ inside.
+    length-put whole at (replicate (min n (length whole - at)) v)
+    (let e : length (replicate (min n (length whole - at)) v) ≡ min n (length whole - at) = length-replicate (min n (length whole - at)) v in omega arith))
+    (λ past. ap length (fill-past whole at n v past))
+
+pub fill-in : (whole : List ℕ) (at n v k d : ℕ) → at ≤ k → k < at + n → k < length whole → getD (fill whole at n v) k d ≡ v
+unfolding fill
+fill-in whole at n v k d from below in-whole =
+    let m : ℕ = min n (length whole - at) in
+    let far : at + (k - at) ≡ k = omega arith in
+    let e : length (replicate m v) ≡ m = length-replicate m v in
+    ap (λ j. getD (put whole at (replicate m v)) j d) (sym far)
+    ∙ put-in whole at (replicate m v) (k - at) d (omega arith) (omega arith)
+    ∙ getD-replicate m (k - at) v d (omega arith)
+
+pub fill-before : (whole : List ℕ) (at n v k d : ℕ) → k < at → getD (fill whole at n v) k d ≡ getD whole k d
+unfolding fill
+fill-before whole at n v k d before =
+    by-order at (length whole)
+    (λ inside. put-before whole at (replicate (min n (length whole - at)) v) k d (omega arith) before)
+    (λ past. ap (λ l. getD l k d) (fill-past whole at n v past))
+
+pub fill-after : (whole : List ℕ) (at n v k d : ℕ) → at + n ≤ k → getD (fill whole at n v) k d ≡ getD whole k d
+unfolding fill
+fill-after whole at n v k d after =
+    by-order at (length whole)
+    (λ inside.
+    put-after whole at (replicate (min n (length whole - at)) v) k d (omega arith)
+    (let e : length (replicate (min n (length whole - at)) v) ≡ min n (length whole - at) = length-replicate (min n (length whole - at)) v in omega arith))
+    (λ past. ap (λ l. getD l k d) (fill-past whole at n v past))

@@ -1,0 +1,418 @@
+-- The laws of a release: what the oldest is, what an eviction leaves, that evictions go on exactly while the weights are above Q,
+-- and that lengths stay. Assumes nothing.
+use Prim.Native.Nat.{ℕ, zero, suc, _+_, _-_, _*_, _≤_, _<_, zero-le}
+use native.Mathlib.Nat.{le-of-eq}
+use native.Mathlib.Decide.{ℕ-discrete}
+use native.Mathlib.Omega.{arith}
+use mathlib.Core.Path.{_≡_, refl, sym, ap, ap₂, subst, _∙_}
+use mathlib.Core.Logic.{_≢_}
+use mathlib.Core.Bool.{Bool, true, false, _&&_, true≢false, and-eq-true-iff}
+use mathlib.Core.Option.{Option, none, some, Option·none-ne-some, Option·some-injective}
+use mathlib.Core.List.{List, [], _∷_}
+use lib.ListN.{length, getD}
+use lib.Dec.{eqb, ltb}
+use borrow.Author.Tests.{eqb-true, eq-eqb, ne-eqb, ltb-true, ltb-false, lt-ltb, le-ltb}
+use Rattle.rules.specs.declared.Answer.the-variants.{Done, NotHeld, Released}
+use Rattle.rules.specs.Limits.{granule, redzone-byte, released-byte, row-numbers, empty, live, quarantined}
+use Rattle.rules.specs.Lowest.{total}
+use Rattle.rules.specs.Table.{rows, column, start, size, state, turn, is-quarantined, put-row, lessened}
+use Rattle.rules.specs.Grant.{Acted, kept, granules}
+use Rattle.rules.specs.Release.{starts-at, row-at, if-quarantined, in-quarantine, weight, weights, older, oldest, oldest-zero, oldest-here, oldest-other, Pool, paint-row, evict-row, evict-oldest, Settled, and-one-more, settle-in, settle, quarantine-row, release-row, release}
+use Rattle.rules.proofs.Lowest.{if-true, if-false, by-test, by-found, by-order, Lowest, lowest-some, lowest-none, below-all, total-same, total-change, le-total, total-above}
+use Rattle.rules.proofs.Put.{length-fill, fill-in, fill-before, fill-after}
+use Rattle.rules.proofs.Table.{rows-same, length-put-row, column-put-row, column-put-row-other, length-lessened, column-lessened, turn-lessened}
+use Rattle.rules.proofs.Grant.{SameLengths}
+
+-- ---- the oldest
+
+older-none : (table : List ℕ) (n : ℕ) → older table none n ≡ n
+unfolding older
+older-none table n = refl
+
+older-lower : (table : List ℕ) (i n : ℕ) → turn table n < turn table i → older table (some i) n ≡ n
+unfolding older
+older-lower table i n less = if-true _ _ (lt-ltb (turn table n) (turn table i) less)
+
+older-kept : (table : List ℕ) (i n : ℕ) → turn table i ≤ turn table n → older table (some i) n ≡ i
+unfolding older
+older-kept table i n more = if-false _ _ (le-ltb (turn table n) (turn table i) more)
+
+-- of the first n rows, i is the quarantined one with the lowest turn, and on equal turns the lower row
+pub record Oldest (table : List ℕ) (n i : ℕ) : Type 0 where
+  pub below : i < n
+  pub held : is-quarantined table i ≡ true
+  pub least : (j : ℕ) → j < n → is-quarantined table j ≡ true → turn table i ≤ turn table j
+  pub first : (j : ℕ) → j < i → is-quarantined table j ≡ true → turn table i < turn table j
+
+pub oldest-none : (table : List ℕ) (n : ℕ) → oldest table n ≡ none → (j : ℕ) → j < n → is-quarantined table j ≡ false
+oldest-none table zero e j below = absurd (omega arith)
+oldest-none table (suc n) e j below =
+    by-test (is-quarantined table n)
+    (λ here. absurd (Option·none-ne-some (older table (oldest table n) n) (sym e ∙ oldest-here table n here)))
+    (λ other.
+    by-order j n
+    (λ less. oldest-none table n (sym (oldest-other table n other) ∙ e) j less)
+    (λ more. let last : n ≡ j = omega arith in subst (λ m. is-quarantined table m ≡ false) last other))
+
+-- what is quarantined of the first n + 1 rows, by the row
+upto : (P : ℕ → Type 0) (n : ℕ) → P n → ((j : ℕ) → j < n → P j) → (j : ℕ) → j < suc n → P j
+upto P n here before j below = by-order j n (before j) (λ more. let last : n ≡ j = omega arith in subst P last here)
+
+pub oldest-some : (table : List ℕ) (n i : ℕ) → oldest table n ≡ some i → Oldest table n i
+oldest-some table zero i e = absurd (Option·none-ne-some i (sym (oldest-zero table) ∙ e))
+oldest-some table (suc n) i e =
+    by-test (is-quarantined table n)
+    (λ here.
+    let chosen : older table (oldest table n) n ≡ i = Option·some-injective (older table (oldest table n) n) i (sym (oldest-here table n here) ∙ e) in
+    by-found (oldest table n)
+    (λ k found·.
+    let o : Oldest table n k = oldest-some table n k found· in
+    let chosen-of : older table (some k) n ≡ i = ap (λ f. older table f n) (sym found·) ∙ chosen in
+    by-order (turn table n) (turn table k)
+    (λ lower.
+    subst (Oldest table (suc n)) (sym (older-lower table k n lower) ∙ chosen-of)
+    (record {
+      below = omega arith;
+      held = here;
+      least = upto (λ j. is-quarantined table j ≡ true → turn table n ≤ turn table j) n (λ q. omega arith) (λ j b q. omega (arith, o .least j b q));
+      first = λ j b q. omega (arith, o .least j b q);
+    }))
+    (λ kept·.
+    subst (Oldest table (suc n)) (sym (older-kept table k n kept·) ∙ chosen-of)
+    (record {
+      below = omega (arith, o .below);
+      held = o .held;
+      least = upto (λ j. is-quarantined table j ≡ true → turn table k ≤ turn table j) n (λ q. kept·) (λ j b q. o .least j b q);
+      first = o .first;
+    })))
+    (λ nothing.
+    subst (Oldest table (suc n)) (sym (ap (λ f. older table f n) nothing ∙ older-none table n) ∙ chosen)
+    (record {
+      below = omega arith;
+      held = here;
+      least =
+          upto (λ j. is-quarantined table j ≡ true → turn table n ≤ turn table j) n (λ q. omega arith)
+          (λ j b q. absurd (true≢false (sym q ∙ oldest-none table n nothing j b)));
+      first = λ j b q. absurd (true≢false (sym q ∙ oldest-none table n nothing j b));
+    })))
+    (λ other.
+    let o : Oldest table n i = oldest-some table n i (sym (oldest-other table n other) ∙ e) in
+    record {
+      below = omega (arith, o .below);
+      held = o .held;
+      least = upto (λ j. is-quarantined table j ≡ true → turn table i ≤ turn table j) n (λ q. absurd (true≢false (sym q ∙ other))) (o .least);
+      first = o .first;
+    })
+
+-- ---- an eviction
+
+four-zeros : (k : ℕ) → getD {A = ℕ} (0 ∷ 0 ∷ 0 ∷ 0 ∷ []) k 0 ≡ 0
+four-zeros zero = refl
+four-zeros (suc zero) = refl
+four-zeros (suc (suc zero)) = refl
+four-zeros (suc (suc (suc zero))) = refl
+four-zeros (suc (suc (suc (suc k)))) = refl
+
+-- a number for a quarantined row, and for another
+if-quarantined-yes : (table : List ℕ) (f : ℕ → ℕ) (i : ℕ) → is-quarantined table i ≡ true → if-quarantined table f i ≡ f i
+unfolding if-quarantined
+if-quarantined-yes table f i e = if-true _ _ e
+
+if-quarantined-no : (table : List ℕ) (f : ℕ → ℕ) (i : ℕ) → is-quarantined table i ≡ false → if-quarantined table f i ≡ 0
+unfolding if-quarantined
+if-quarantined-no table f i e = if-false _ _ e
+
+-- it goes by the state and the number alone
+if-quarantined-same : (table other : List ℕ) (f g : ℕ → ℕ) (i : ℕ) → state table i ≡ state other i → f i ≡ g i
+    → if-quarantined table f i ≡ if-quarantined other g i
+unfolding if-quarantined
+if-quarantined-same table other f g i states numbers = ap₂ {C = ℕ} (λ (s n : ℕ). elim (eqb s quarantined) as (λ _. ℕ) [ true ↦ n | false ↦ 0 ]) states numbers
+
+module _ (pool : Pool) (i : ℕ) (below : i < rows (pool .table)) where
+  pub evict-row-length : length (evict-row pool i .table) ≡ length (pool .table)
+  unfolding evict-row
+  evict-row-length =
+      length-lessened (put-row (pool .table) i 0 0 empty 0) (rows (pool .table))
+      ∙ length-put-row (pool .table) i 0 0 empty 0 below
+
+  pub evict-row-rows : rows (evict-row pool i .table) ≡ rows (pool .table)
+  evict-row-rows = rows-same (evict-row pool i .table) (pool .table) evict-row-length
+
+  -- the evicted row is emptied
+  pub evict-row-empty : (k : ℕ) → k < 3 → column k (evict-row pool i .table) i ≡ 0
+  unfolding evict-row
+  evict-row-empty k in-row =
+      column-lessened (put-row (pool .table) i 0 0 empty 0) (rows (pool .table)) k i in-row
+      ∙ column-put-row (pool .table) i 0 0 empty 0 below k (omega arith)
+      ∙ four-zeros k
+
+  -- every other row keeps its start, size and state
+  pub evict-row-other : (k j : ℕ) → k < 3 → j ≢ i → column k (evict-row pool i .table) j ≡ column k (pool .table) j
+  unfolding evict-row
+  evict-row-other k j in-row other =
+      column-lessened (put-row (pool .table) i 0 0 empty 0) (rows (pool .table)) k j in-row
+      ∙ column-put-row-other (pool .table) i 0 0 empty 0 below k j (omega arith) other
+
+  -- and its turn is lessened
+  pub evict-row-turn : (j : ℕ) → j < rows (pool .table) → j ≢ i → turn (evict-row pool i .table) j ≡ turn (pool .table) j - 1
+  unfolding evict-row
+  evict-row-turn j in-rows other =
+      turn-lessened (put-row (pool .table) i 0 0 empty 0) (rows (pool .table)) j
+      (le-of-eq (sym (rows-same (put-row (pool .table) i 0 0 empty 0) (pool .table) (length-put-row (pool .table) i 0 0 empty 0 below)))) in-rows
+      ∙ ap (λ t. t - 1) (column-put-row-other (pool .table) i 0 0 empty 0 below 3 j (omega arith) other)
+
+  pub evict-row-own-turn : turn (evict-row pool i .table) i ≡ 0
+  unfolding evict-row
+  evict-row-own-turn =
+      turn-lessened (put-row (pool .table) i 0 0 empty 0) (rows (pool .table)) i
+      (le-of-eq (sym (rows-same (put-row (pool .table) i 0 0 empty 0) (pool .table) (length-put-row (pool .table) i 0 0 empty 0 below)))) below
+      ∙ ap (λ t. t - 1) (column-put-row (pool .table) i 0 0 empty 0 below 3 (omega arith))
+
+  -- one fewer is quarantined
+  pub evict-row-count : is-quarantined (pool .table) i ≡ true → in-quarantine (pool .table) ≡ suc (in-quarantine (evict-row pool i .table))
+  unfolding in-quarantine
+  evict-row-count held =
+      let n : ℕ = rows (pool .table) in
+      let f : ℕ → ℕ = if-quarantined (pool .table) (λ _. 1) in
+      let g : ℕ → ℕ = if-quarantined (evict-row pool i .table) (λ _. 1) in
+      let change : total f n + g i ≡ total g n + f i =
+      total-change f g n i below
+      (λ j other. sym (if-quarantined-same (evict-row pool i .table) (pool .table) (λ _. 1) (λ _. 1) j (evict-row-other 2 j (omega arith) other) refl)) in
+      let one : f i ≡ 1 = if-quarantined-yes (pool .table) (λ _. 1) i held in
+      let none· : g i ≡ 0 =
+      if-quarantined-no (evict-row pool i .table) (λ _. 1) i (ne-eqb (state (evict-row pool i .table) i) quarantined (λ e. absurd (omega (arith, evict-row-empty 2 (omega arith))))) in
+      let same : total g (rows (evict-row pool i .table)) ≡ total g n = ap (total g) evict-row-rows in
+      omega arith
+
+pub paint-row-length : (pool : Pool) (i v : ℕ) → length (paint-row pool i v) ≡ length (pool .shadow)
+unfolding paint-row
+paint-row-length pool i v = length-fill (pool .shadow) (start (pool .table) i) (granules (size (pool .table) i)) v
+
+-- the row's granules that exist become v
+pub paint-row-in : (pool : Pool) (i v k : ℕ) → start (pool .table) i ≤ k → k < start (pool .table) i + granules (size (pool .table) i)
+    → k < length (pool .shadow) → getD (paint-row pool i v) k 0 ≡ v
+unfolding paint-row
+paint-row-in pool i v k from below exists = fill-in (pool .shadow) (start (pool .table) i) (granules (size (pool .table) i)) v k 0 from below exists
+
+-- and no other granule changes
+pub paint-row-before : (pool : Pool) (i v k : ℕ) → k < start (pool .table) i → getD (paint-row pool i v) k 0 ≡ getD (pool .shadow) k 0
+unfolding paint-row
+paint-row-before pool i v k before = fill-before (pool .shadow) (start (pool .table) i) (granules (size (pool .table) i)) v k 0 before
+
+pub paint-row-after : (pool : Pool) (i v k : ℕ) → start (pool .table) i + granules (size (pool .table) i) ≤ k
+    → getD (paint-row pool i v) k 0 ≡ getD (pool .shadow) k 0
+unfolding paint-row
+paint-row-after pool i v k after = fill-after (pool .shadow) (start (pool .table) i) (granules (size (pool .table) i)) v k 0 after
+
+-- the shadow after an eviction: fa in the row's granules
+pub evict-row-shadow : (pool : Pool) (i : ℕ) → evict-row pool i .shadow ≡ paint-row pool i redzone-byte
+unfolding evict-row
+evict-row-shadow pool i = refl
+
+-- ---- evictions
+
+pub evict-oldest-is : (pool : Pool) (i : ℕ) → oldest (pool .table) (rows (pool .table)) ≡ some i → evict-oldest pool ≡ evict-row pool i
+unfolding evict-oldest
+evict-oldest-is pool i e = rw (e, evict-oldest)
+
+-- a quarantined row weighs what its block weighs
+pub weights-of : (R : ℕ) (table : List ℕ) (i : ℕ) → i < rows table → is-quarantined table i ≡ true → weight R (size table i) ≤ weights R table
+unfolding weights
+weights-of R table i below held =
+    let f : ℕ → ℕ = if-quarantined table (λ j. weight R (size table j)) in
+    omega (arith, le-total f (rows table) i below, if-quarantined-yes table (λ j. weight R (size table j)) i held)
+
+-- where the weights are above a number, a row is quarantined, and so one is the oldest
+pub some-oldest : (R Q : ℕ) (table : List ℕ) → Q < weights R table → (i : ℕ) × (oldest table (rows table) ≡ some i)
+unfolding weights
+some-oldest R Q table heavy =
+    by-found (oldest table (rows table))
+    (λ i e. (i, e))
+    (λ nothing.
+    let f : ℕ → ℕ = if-quarantined table (λ j. weight R (size table j)) in
+    let above : (k : ℕ) × (k < rows table) × (0 < f k) = total-above f (rows table) (omega arith) in
+    let none· : f (above .0) ≡ 0 =
+    if-quarantined-no table (λ j. weight R (size table j)) (above .0) (oldest-none table (rows table) nothing (above .0) (above .1)) in
+    absurd (omega (arith, above .2)))
+
+-- each eviction leaves one fewer quarantined
+pub evict-oldest-count : (R Q : ℕ) (pool : Pool) → Q < weights R (pool .table)
+    → in-quarantine (pool .table) ≡ suc (in-quarantine (evict-oldest pool .table))
+evict-oldest-count R Q pool heavy =
+    let i : ℕ = some-oldest R Q (pool .table) heavy .0 in
+    let e : oldest (pool .table) (rows (pool .table)) ≡ some i = some-oldest R Q (pool .table) heavy .1 in
+    let o : Oldest (pool .table) (rows (pool .table)) i = oldest-some (pool .table) (rows (pool .table)) i e in
+    evict-row-count pool i (o .below) (o .held) ∙ ap (λ p. suc (in-quarantine (p .table))) (sym (evict-oldest-is pool i e))
+
+-- the two equations of `settle`: nothing after them looks at the count
+pub settle-done : (R Q : ℕ) (pool : Pool) → weights R (pool .table) ≤ Q → settle R Q pool ≡ record { pool = pool; evicted = 0 }
+unfolding settle settle-in
+settle-done R Q pool light = go (in-quarantine (pool .table))
+  where
+    go : (n : ℕ) → settle-in n R Q pool ≡ record { pool = pool; evicted = 0 }
+    go zero = refl
+    go (suc n) = if-false _ _ (le-ltb Q (weights R (pool .table)) light)
+
+pub settle-more : (R Q : ℕ) (pool : Pool) → Q < weights R (pool .table) → settle R Q pool ≡ and-one-more (settle R Q (evict-oldest pool))
+unfolding settle settle-in
+settle-more R Q pool heavy =
+    ap (λ n. settle-in n R Q pool) (evict-oldest-count R Q pool heavy) ∙ go (in-quarantine (evict-oldest pool .table))
+  where
+    go : (n : ℕ) → settle-in (suc n) R Q pool ≡ and-one-more (settle-in n R Q (evict-oldest pool))
+    go n = if-true _ _ (lt-ltb Q (weights R (pool .table)) heavy)
+
+-- induction by evictions
+pub by-evictions {ℓ} : (R Q : ℕ) (P : Pool → Type ℓ) → ((pool : Pool) → weights R (pool .table) ≤ Q → P pool)
+    → ((pool : Pool) → Q < weights R (pool .table) → P (evict-oldest pool) → P pool) → (pool : Pool) → P pool
+by-evictions R Q P done more pool = go (in-quarantine (pool .table)) pool refl
+  where
+    go : (n : ℕ) (p : Pool) → in-quarantine (p .table) ≡ n → P p
+    go zero p e =
+        by-order Q (weights R (p .table)) (λ heavy. absurd (omega (arith, evict-oldest-count R Q p heavy))) (λ light. done p light)
+    go (suc n) p e =
+        by-order Q (weights R (p .table))
+        (λ heavy. more p heavy (go n (evict-oldest p) (omega (arith, evict-oldest-count R Q p heavy))))
+        (λ light. done p light)
+
+-- what holds of a pool and of what an eviction leaves holds once all are done
+pub settled-has {ℓ} : (R Q : ℕ) (P : Pool → Type ℓ)
+    → ((pool : Pool) (i : ℕ) → Oldest (pool .table) (rows (pool .table)) i → P pool → P (evict-row pool i))
+    → (pool : Pool) → P pool → P (settle R Q pool .pool)
+settled-has R Q P evicting =
+    by-evictions R Q (λ pool. P pool → P (settle R Q pool .pool))
+    (λ pool light p. subst (λ s. P (s .pool)) (sym (settle-done R Q pool light)) p)
+    (λ pool heavy ih p.
+    let i : ℕ = some-oldest R Q (pool .table) heavy .0 in
+    let e : oldest (pool .table) (rows (pool .table)) ≡ some i = some-oldest R Q (pool .table) heavy .1 in
+    let o : Oldest (pool .table) (rows (pool .table)) i = oldest-some (pool .table) (rows (pool .table)) i e in
+    subst (λ s. P (s .pool)) (sym (settle-more R Q pool heavy)) (ih (subst P (sym (evict-oldest-is pool i e)) (evicting pool i o p))))
+
+-- once all are done the weights sum to at most Q
+pub settle-light : (R Q : ℕ) (pool : Pool) → weights R (settle R Q pool .pool .table) ≤ Q
+settle-light R Q =
+    by-evictions R Q (λ pool. weights R (settle R Q pool .pool .table) ≤ Q)
+    (λ pool light. subst (λ s. weights R (s .pool .table) ≤ Q) (sym (settle-done R Q pool light)) light)
+    (λ pool heavy ih. subst (λ s. weights R (s .pool .table) ≤ Q) (sym (settle-more R Q pool heavy)) ih)
+
+-- so a block heavier than Q leaves at once
+pub none-heavier : (R Q : ℕ) (pool : Pool) (i : ℕ) → i < rows (settle R Q pool .pool .table)
+    → is-quarantined (settle R Q pool .pool .table) i ≡ true → weight R (size (settle R Q pool .pool .table) i) ≤ Q
+none-heavier R Q pool i below held = omega (arith, weights-of R (settle R Q pool .pool .table) i below held, settle-light R Q pool)
+
+-- ---- a row becomes quarantined
+
+module _ (pool : Pool) (i : ℕ) (below : i < rows (pool .table)) where
+  pub quarantine-row-lengths : (length (quarantine-row pool i .shadow) ≡ length (pool .shadow)) × (length (quarantine-row pool i .table) ≡ length (pool .table))
+  unfolding quarantine-row
+  quarantine-row-lengths = (
+    paint-row-length pool i released-byte,
+    length-put-row (pool .table) i (start (pool .table) i) (size (pool .table) i) quarantined (in-quarantine (pool .table) + 1) below,
+  )
+
+  -- its numbers
+  pub quarantine-row-own : (k : ℕ) → k < row-numbers
+      → column k (quarantine-row pool i .table) i ≡ getD (start (pool .table) i ∷ size (pool .table) i ∷ quarantined ∷ (in-quarantine (pool .table) + 1) ∷ []) k 0
+  unfolding quarantine-row
+  quarantine-row-own k in-row =
+      column-put-row (pool .table) i (start (pool .table) i) (size (pool .table) i) quarantined (in-quarantine (pool .table) + 1) below k in-row
+
+  -- every other row stands as it did
+  pub quarantine-row-other : (k j : ℕ) → k < row-numbers → j ≢ i → column k (quarantine-row pool i .table) j ≡ column k (pool .table) j
+  unfolding quarantine-row
+  quarantine-row-other k j in-row other =
+      column-put-row-other (pool .table) i (start (pool .table) i) (size (pool .table) i) quarantined (in-quarantine (pool .table) + 1) below k j in-row other
+
+-- ---- the row that starts at an address
+
+-- i is the lowest row of that state that starts at a
+pub record StartsAt (wanted : ℕ) (table : List ℕ) (a i : ℕ) : Type 0 where
+  pub below : i < rows table
+  pub has : state table i ≡ wanted
+  pub at : granule * start table i ≡ a
+  pub first : (j : ℕ) → j < i → state table j ≡ wanted → granule * start table j ≢ a
+
+at-true : (wanted : ℕ) (table : List ℕ) (a i : ℕ) → (eqb (state table i) wanted && starts-at table a i) ≡ true
+    → (state table i ≡ wanted) × (granule * start table i ≡ a)
+unfolding starts-at
+at-true wanted table a i e =
+    let both : (eqb (state table i) wanted ≡ true) × (starts-at table a i ≡ true) = and-eq-true-iff (eqb (state table i) wanted) (starts-at table a i) .0 e in
+    (eqb-true (state table i) wanted (both .0), eqb-true (granule * start table i) a (both .1))
+
+at-is : (wanted : ℕ) (table : List ℕ) (a i : ℕ) → state table i ≡ wanted → granule * start table i ≡ a
+    → (eqb (state table i) wanted && starts-at table a i) ≡ true
+unfolding starts-at
+at-is wanted table a i has at =
+    and-eq-true-iff (eqb (state table i) wanted) (starts-at table a i) .1 (eq-eqb (state table i) wanted has, eq-eqb (granule * start table i) a at)
+
+pub row-at-some : (wanted : ℕ) (table : List ℕ) (a i : ℕ) → row-at wanted table a ≡ some i → StartsAt wanted table a i
+unfolding row-at
+row-at-some wanted table a i e =
+    let l : Lowest (λ j. eqb (state table j) wanted && starts-at table a j) (rows table) 0 i =
+    lowest-some (λ j. eqb (state table j) wanted && starts-at table a j) (rows table) 0 i e in
+    record {
+      below = below-all l;
+      has = at-true wanted table a i (l .passes) .0;
+      at = at-true wanted table a i (l .passes) .1;
+      first = λ j less has at. true≢false (sym (at-is wanted table a j has at) ∙ l .first j zero-le less);
+    }
+
+pub row-at-none : (wanted : ℕ) (table : List ℕ) (a : ℕ) → row-at wanted table a ≡ none
+    → (j : ℕ) → j < rows table → state table j ≡ wanted → granule * start table j ≢ a
+unfolding row-at
+row-at-none wanted table a e j below has at =
+    true≢false
+    (sym (at-is wanted table a j has at)
+    ∙ lowest-none (λ m. eqb (state table m) wanted && starts-at table a m) (rows table) 0 e j zero-le (omega arith))
+
+-- ---- a release
+
+pub release-nothing : (R Q : ℕ) (shadow table : List ℕ) → release R Q shadow table 0 ≡ kept (Done 0) shadow table
+unfolding release
+release-nothing R Q shadow table = refl
+
+pub release-done : (R Q : ℕ) (shadow table : List ℕ) (a i : ℕ) → a ≢ 0 → row-at live table a ≡ some i
+    → release R Q shadow table a ≡ release-row R Q (record { shadow = shadow; table = table }) i
+unfolding release
+release-done R Q shadow table a i above e = if-false _ _ (ne-eqb a 0 above) ∙ rw e
+
+pub release-twice : (R Q : ℕ) (shadow table : List ℕ) (a i : ℕ) → a ≢ 0 → row-at live table a ≡ none → row-at quarantined table a ≡ some i
+    → release R Q shadow table a ≡ kept Released shadow table
+unfolding release
+release-twice R Q shadow table a i above e f = if-false _ _ (ne-eqb a 0 above) ∙ rw e (rw f)
+
+pub release-foreign : (R Q : ℕ) (shadow table : List ℕ) (a : ℕ) → a ≢ 0 → row-at live table a ≡ none → row-at quarantined table a ≡ none
+    → release R Q shadow table a ≡ kept NotHeld shadow table
+unfolding release
+release-foreign R Q shadow table a above e f = if-false _ _ (ne-eqb a 0 above) ∙ rw e (rw f)
+
+-- by what a release finds
+pub by-release {ℓ} : (R Q : ℕ) (shadow table : List ℕ) (a : ℕ) (P : Acted → Type ℓ)
+    → P (kept (Done 0) shadow table) → P (kept Released shadow table) → P (kept NotHeld shadow table)
+    → ((i : ℕ) → StartsAt live table a i → P (release-row R Q (record { shadow = shadow; table = table }) i))
+    → P (release R Q shadow table a)
+by-release R Q shadow table a P nothing twice foreign done =
+    elim (ℕ-discrete a 0) [
+      | yes e ↦ subst (λ b. P (release R Q shadow table b)) (sym e) (subst P (sym (release-nothing R Q shadow table)) nothing)
+      | no above ↦
+          by-found (row-at live table a)
+          (λ i e. subst P (sym (release-done R Q shadow table a i above e)) (done i (row-at-some live table a i e)))
+          (λ e.
+          by-found (row-at quarantined table a)
+          (λ i f. subst P (sym (release-twice R Q shadow table a i above e f)) twice)
+          (λ f. subst P (sym (release-foreign R Q shadow table a above e f)) foreign))
+    ]
+
+SamePool : List ℕ → List ℕ → Pool → Type 0
+SamePool shadow table pool = (length (pool .shadow) ≡ length shadow) × (length (pool .table) ≡ length table)
+
+-- lengths are kept
+pub release-lengths : (R Q : ℕ) (shadow table : List ℕ) (a : ℕ) → SameLengths shadow table (release R Q shadow table a)
+unfolding SamePool release-row
+release-lengths R Q shadow table a =
+    by-release R Q shadow table a (SameLengths shadow table) (refl, refl) (refl, refl) (refl, refl)
+    (λ i at.
+    let pool : Pool = record { shadow = shadow; table = table } in
+    settled-has R Q (SamePool shadow table)
+    (λ p j o same.
+    (ap length (evict-row-shadow p j) ∙ paint-row-length p j redzone-byte ∙ same .0, evict-row-length p j (o .below) ∙ same .1))
+    (quarantine-row pool i) (quarantine-row-lengths pool i (at .below)))
