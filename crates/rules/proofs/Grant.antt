@@ -4,21 +4,19 @@ use Prim.Native.Nat.{ℕ, zero, suc, _+_, _-_, _*_, _/_, _%_, _≤_, _<_, zero-l
 use native.Mathlib.Omega.{arith}
 use mathlib.Core.Path.{_≡_, refl, sym, ap, subst, _∙_}
 use mathlib.Core.Logic.{_≢_}
-use mathlib.Core.Bool.{Bool, true, false, not, true≢false}
+use mathlib.Core.Bool.{true, true≢false}
 use mathlib.Core.Option.{Option, none, some, Option·none-ne-some}
 use mathlib.Core.List.{List, [], _∷_, _++_}
 use lib.ListN.{length, getD, replicate, length-append, length-replicate, getD-replicate, List·getD-append}
 use lib.Seq.{getD-append-add}
-use lib.Dec.{eqb}
-use borrow.Author.Tests.{eqb-true, eqb-false, eq-eqb, ne-eqb, not-true, not-false}
+use borrow.Author.Tests.{eqb-true, eq-eqb}
 use Rattle.rules.specs.declared.Answer.{Answer}
 use Rattle.rules.specs.declared.Answer.the-variants.{Done, NoRow, NoPlace}
 use Rattle.rules.specs.Limits.{granule, redzone-byte, row-numbers, empty, live}
-use Rattle.rules.specs.Lowest.{lowest, found}
 use Rattle.rules.specs.Put.{put}
 use Rattle.rules.specs.Table.{rows, column, state, is-empty, put-row}
-use Rattle.rules.specs.Grant.{Acted, kept, counted, granules, all-free, fits, place, last-granule, granted, empty-row, grant-at, grant}
-use Rattle.rules.proofs.Lowest.{by-found, Lowest, lowest-some, lowest-none, lowest-no, below-all}
+use Rattle.rules.specs.Grant.{Acted, kept, counted, granules, fits, place, last-granule, granted, empty-row, grant-at, grant}
+use Rattle.rules.proofs.Lowest.{by-found, Lowest, lowest-some, lowest-none, below-all, AllEqual, all-equal-true, all-equal-is}
 use Rattle.rules.proofs.Put.{length-put}
 use Rattle.rules.proofs.Table.{length-put-row, column-put-row, column-put-row-other}
 
@@ -49,29 +47,11 @@ pub granules-above : (s : ℕ) → 0 < s → 0 < granules s
 unfolding granules
 granules-above s above = omega arith
 
--- ---- a window
+-- ---- the place
 
 -- every shadow byte from i to e - 1 is fa
 abbrev pub AllFree : List ℕ → ℕ → ℕ → Type 0
-AllFree shadow i e = (k : ℕ) → i ≤ k → k < e → getD shadow k 0 ≡ redzone-byte
-
-pub all-free-true : (shadow : List ℕ) (i n : ℕ) → all-free shadow i n ≡ true → AllFree shadow i (i + n)
-unfolding all-free
-all-free-true shadow i n e k from below =
-    by-found (lowest (λ j. not (eqb (getD shadow j 0) redzone-byte)) n i)
-    (λ b f. absurd (true≢false (sym e ∙ ap (λ o. not (found o)) f)))
-    (λ f.
-    eqb-true (getD shadow k 0) redzone-byte
-    (not-false (eqb (getD shadow k 0) redzone-byte) (lowest-none (λ j. not (eqb (getD shadow j 0) redzone-byte)) n i f k from below)))
-
-pub all-free-is : (shadow : List ℕ) (i n : ℕ) → AllFree shadow i (i + n) → all-free shadow i n ≡ true
-unfolding all-free
-all-free-is shadow i n free =
-    ap (λ o. not (found o))
-    (lowest-no (λ j. not (eqb (getD shadow j 0) redzone-byte)) n i
-    (λ k from below. ap not (eq-eqb (getD shadow k 0) redzone-byte (free k from below))))
-
--- ---- the place
+AllFree shadow i e = AllEqual shadow redzone-byte i e
 
 -- a block of u granules at p keeps R granules of redzone on both sides
 pub record Fits (shadow : List ℕ) (R u p : ℕ) : Type 0 where
@@ -92,13 +72,13 @@ unfolding fits
 fits-true shadow R u p low high e = record {
   low = low;
   high = high;
-  free = subst (λ w. AllFree shadow (p - R) w) (fits-window R u p low) (all-free-true shadow (p - R) (R + u + R) e);
+  free = subst (λ w. AllFree shadow (p - R) w) (fits-window R u p low) (all-equal-true shadow redzone-byte (p - R) (R + u + R) e);
 }
 
 fits-is : (shadow : List ℕ) (R u p : ℕ) → Fits shadow R u p → fits shadow R u p ≡ true
 unfolding fits
 fits-is shadow R u p f =
-    all-free-is shadow (p - R) (R + u + R)
+    all-equal-is shadow redzone-byte (p - R) (R + u + R)
     (subst (λ w. AllFree shadow (p - R) w) (sym (fits-window R u p (f .low))) (f .free))
 
 pub place-some : (shadow : List ℕ) (R u p : ℕ) → place shadow R u ≡ some p → Place shadow R u p

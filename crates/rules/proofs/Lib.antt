@@ -4,3 +4,7 @@ pub mod Table
 pub mod Shadow
 pub mod Grant
 pub mod Release
+pub mod Maps
+pub mod Frames
+pub mod Feed
+pub mod Calls

@@ -6,9 +6,13 @@ use native.Mathlib.Decide.{decLt}
 use native.Mathlib.Omega.{arith}
 use mathlib.Core.Path.{_≡_, refl, sym, ap, ap₂, subst, _∙_}
 use mathlib.Core.Logic.{_≢_, ⊎-elim}
-use mathlib.Core.Bool.{Bool, true, false, true≢false}
+use mathlib.Core.Bool.{Bool, true, false, not, true≢false}
 use mathlib.Core.Option.{Option, none, some, Option·some-injective, Option·none-ne-some}
-use Rattle.rules.specs.Lowest.{lowest, total, lowest-zero, lowest-here, lowest-later, total-zero, total-suc}
+use mathlib.Core.List.{List}
+use lib.ListN.{getD}
+use lib.Dec.{eqb}
+use borrow.Author.Tests.{eqb-true, eq-eqb, not-false}
+use Rattle.rules.specs.Lowest.{lowest, found, all-equal, total, lowest-zero, lowest-here, lowest-later, total-zero, total-suc}
 
 -- a choice by a test whose value is known
 pub if-true {ℓ} : {A : Type ℓ} {t : Bool} (a b : A) → t ≡ true → (elim t as (λ _. A) [ true ↦ a | false ↦ b ]) ≡ a
@@ -128,6 +132,27 @@ lowest-skip test n m i fails =
     lowest-no test (n + m) i
     (λ j a b. by-order j (i + n) (λ less. fails j a less) (λ more. lowest-none test m (i + n) e j more (omega arith)))
     ∙ sym e)
+
+-- ---- a window
+
+-- every number of a list from place i to place e - 1 is v
+abbrev pub AllEqual : List ℕ → ℕ → ℕ → ℕ → Type 0
+AllEqual list v i e = (k : ℕ) → i ≤ k → k < e → getD list k 0 ≡ v
+
+pub all-equal-true : (list : List ℕ) (v i n : ℕ) → all-equal list v i n ≡ true → AllEqual list v i (i + n)
+unfolding all-equal
+all-equal-true list v i n e k from below =
+    by-found (lowest (λ j. not (eqb (getD list j 0) v)) n i)
+    (λ b f. absurd (true≢false (sym e ∙ ap (λ o. not (found o)) f)))
+    (λ f.
+    eqb-true (getD list k 0) v
+    (not-false (eqb (getD list k 0) v) (lowest-none (λ j. not (eqb (getD list j 0) v)) n i f k from below)))
+
+pub all-equal-is : (list : List ℕ) (v i n : ℕ) → AllEqual list v i (i + n) → all-equal list v i n ≡ true
+unfolding all-equal
+all-equal-is list v i n same =
+    ap (λ o. not (found o))
+    (lowest-no (λ j. not (eqb (getD list j 0) v)) n i (λ k from below. ap not (eq-eqb (getD list k 0) v (same k from below))))
 
 -- ---- total
 

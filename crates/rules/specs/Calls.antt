@@ -1,8 +1,8 @@
 -- The calls: an opening, the session check behind 24, the direct calls, and a feed into a lent room.
 use Prim.Native.Nat.{ℕ, _+_, _-_, _*_, _/_, _%_}
-use mathlib.Core.Bool.{Bool, true, false, not, _&&_}
+use mathlib.Core.Bool.{Bool, true, false, _&&_}
 use mathlib.Core.List.{List, []}
-use lib.ListN.{length, getD, take, replicate}
+use lib.ListN.{length, take, replicate}
 use lib.Dec.{eqb, leb}
 use Rattle.rules.specs.declared.Session.{Session}
 use Rattle.rules.specs.declared.Opened.{Opened}
@@ -11,7 +11,7 @@ use Rattle.rules.specs.declared.Answer.{Answer}
 use Rattle.rules.specs.declared.Answer.the-variants.{Done, BadShadowLength, BadRedzone, BadTableLength, BadSession}
 use Rattle.rules.specs.Limits.{between, least-granules, most-granules, least-rows, most-rows, row-numbers, least-redzone, most-redzone, frame-digits, too-long, redzone-byte}
 use Rattle.rules.specs.Answers.{status}
-use Rattle.rules.specs.Lowest.{lowest, found}
+use Rattle.rules.specs.Lowest.{all-equal}
 use Rattle.rules.specs.Put.{put}
 use Rattle.rules.specs.Grant.{Acted, kept, grant}
 use Rattle.rules.specs.Release.{release}
@@ -67,7 +67,7 @@ open-with shadow table R Q =
 
 -- the places from n on are zero
 unfoldable pub unused-zero : List ℕ → ℕ → Bool
-unused-zero line n = not (found (lowest (λ k. not (eqb (getD line k 0) 0)) (frame-digits - n) n))
+unused-zero line n = all-equal line 0 n (frame-digits - n)
 
 -- every field is within its limits; a closed session's are not
 unfoldable pub within-limits : Session → Bool

@@ -1,5 +1,6 @@
 -- The unfinished line; one byte, `step`; a text, `run`; and how far a piece is taken.
 use Prim.Native.Nat.{ℕ, zero, suc, _+_, _-_}
+use mathlib.Core.Path.{_≡_, refl}
 use mathlib.Core.Bool.{Bool, true, false}
 use mathlib.Core.List.{List, [], _∷_, _++_}
 use lib.ListN.{length, set, replicate}
@@ -103,11 +104,37 @@ unfoldable pub run : State → List ℕ → Ran
 run st [] = record { state = st; report = [] }
 run st (b ∷ text) = let first : Ran = step st b in after (first .report) (run (first .state) text)
 
+pub run-nil : (st : State) → run st [] ≡ record { state = st; report = [] }
+unfolding run
+run-nil st = refl
+
+pub run-cons : (st : State) (b : ℕ) (text : List ℕ) → run st (b ∷ text) ≡ after (step st b .report) (run (step st b .state) text)
+unfolding run
+run-cons st b text = refl
+
 -- how many bytes of a piece are taken: all, or those before a line feed that fewer than 13 bytes of room are left for
 unfoldable pub taken : List ℕ → ℕ → ℕ
 taken [] room = 0
 taken (b ∷ piece) room =
     elim (eqb b line-feed) [
-      | true ↦ elim (ltb room answer-bytes) [ true ↦ 0 | false ↦ taken piece (room - answer-bytes) + 1 ]
-      | false ↦ taken piece room + 1
+      | true ↦ elim (ltb room answer-bytes) [ true ↦ 0 | false ↦ suc (taken piece (room - answer-bytes)) ]
+      | false ↦ suc (taken piece room)
     ]
+
+pub taken-nil : (room : ℕ) → taken [] room ≡ 0
+unfolding taken
+taken-nil room = refl
+
+-- a byte that is no line feed is taken
+pub taken-byte : (b : ℕ) (piece : List ℕ) (room : ℕ) → eqb b line-feed ≡ false → taken (b ∷ piece) room ≡ suc (taken piece room)
+unfolding taken
+taken-byte b piece room e = rw (e, taken)
+
+-- a line feed is taken with its answer's room, and not without
+pub taken-answered : (piece : List ℕ) (room : ℕ) → ltb room answer-bytes ≡ false → taken (line-feed ∷ piece) room ≡ suc (taken piece (room - answer-bytes))
+unfolding taken
+taken-answered piece room e = rw (e, taken)
+
+pub taken-stops : (piece : List ℕ) (room : ℕ) → ltb room answer-bytes ≡ true → taken (line-feed ∷ piece) room ≡ 0
+unfolding taken
+taken-stops piece room e = rw (e, taken)

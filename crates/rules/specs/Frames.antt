@@ -1,5 +1,6 @@
 -- Frames in, frames out: a line's digits, what the line asks, and an answer's bytes.
 use Prim.Native.Nat.{ℕ, zero, suc, _+_, _-_, _*_, _/_, _%_, _^_}
+use mathlib.Core.Path.{_≡_, refl}
 use mathlib.Core.Bool.{true, false}
 use mathlib.Core.Option.{Option, none, some}
 use mathlib.Core.List.{List, [], _∷_, _++_}
@@ -30,6 +31,18 @@ hex-digit b =
 unfoldable pub number-on : ℕ → List ℕ → Option ℕ
 number-on n [] = some n
 number-on n (b ∷ bs) = elim (hex-digit b) [ some d ↦ number-on (16 * n + d) bs | none ↦ none ]
+
+pub number-nil : (n : ℕ) → number-on n [] ≡ some n
+unfolding number-on
+number-nil n = refl
+
+pub number-cons : (n b d : ℕ) (bs : List ℕ) → hex-digit b ≡ some d → number-on n (b ∷ bs) ≡ number-on (16 * n + d) bs
+unfolding number-on
+number-cons n b d bs e = rw (e, number-on)
+
+pub number-stop : (n b : ℕ) (bs : List ℕ) → hex-digit b ≡ none → number-on n (b ∷ bs) ≡ none
+unfolding number-on
+number-stop n b bs e = rw (e, number-on)
 
 -- the number that a text of hex digits says
 unfoldable pub number : List ℕ → Option ℕ
@@ -81,6 +94,14 @@ digit d = elim (ltb d 10) [ true ↦ 0x30 + d | false ↦ 0x61 + (d - 10) ]
 unfoldable pub digits : ℕ → ℕ → List ℕ
 digits zero n = []
 digits (suc k) n = digit (n / 16 ^ k % 16) ∷ digits k n
+
+pub digits-zero : (n : ℕ) → digits zero n ≡ []
+unfolding digits
+digits-zero n = refl
+
+pub digits-suc : (k n : ℕ) → digits (suc k) n ≡ digit (n / 16 ^ k % 16) ∷ digits k n
+unfolding digits
+digits-suc k n = refl
 
 -- status (2), kind (2), value (8), line feed
 unfoldable pub answer-line : Answer → List ℕ

@@ -1,14 +1,13 @@
 -- Grant of s bytes: its place, what is painted, its row.
 use Prim.Native.Nat.{ℕ, zero, suc, _+_, _-_, _*_, _/_, _%_, max}
-use mathlib.Core.Bool.{Bool, not}
+use mathlib.Core.Bool.{Bool}
 use mathlib.Core.Option.{Option, none, some}
 use mathlib.Core.List.{List, [], _∷_, _++_}
-use lib.ListN.{length, getD, replicate}
-use lib.Dec.{eqb}
+use lib.ListN.{length, replicate}
 use Rattle.rules.specs.declared.Answer.{Answer}
 use Rattle.rules.specs.declared.Answer.the-variants.{Done, NoRow, NoPlace}
 use Rattle.rules.specs.Limits.{granule, redzone-byte, live}
-use Rattle.rules.specs.Lowest.{lowest, found}
+use Rattle.rules.specs.Lowest.{lowest, all-equal}
 use Rattle.rules.specs.Put.{put}
 use Rattle.rules.specs.Table.{rows, is-empty, put-row}
 
@@ -30,13 +29,9 @@ counted s = max s 1
 unfoldable pub granules : ℕ → ℕ
 granules s = (s + 7) / granule
 
--- the n shadow bytes from i on are all fa: given up at the first that is not
-unfoldable pub all-free : List ℕ → ℕ → ℕ → Bool
-all-free shadow i n = not (found (lowest (λ k. not (eqb (getD shadow k 0) redzone-byte)) n i))
-
--- every shadow byte from p - R to p + u + R - 1 is fa
+-- every shadow byte from p - R to p + u + R - 1 is fa: given up at the first that is not
 unfoldable pub fits : List ℕ → ℕ → ℕ → ℕ → Bool
-fits shadow R u p = all-free shadow (p - R) (R + u + R)
+fits shadow R u p = all-equal shadow redzone-byte (p - R) (R + u + R)
 
 -- the lowest granule p with p at least R, p + u + R at most S, that fits
 unfoldable pub place : List ℕ → ℕ → ℕ → Option ℕ

@@ -1,9 +1,12 @@
--- "The lowest that ..": the lowest number that passes a test, and the sum of numbers. Every search and every count of the
--- rules is one of the two, and each runs upward, as the loops do. Assumes nothing.
+-- "The lowest that ..": the lowest number that passes a test, and the sum of numbers. Every search, every walk over a window and
+-- every count of the rules is one of these, and each runs upward, as the loops do. Assumes nothing.
 use Prim.Native.Nat.{ℕ, zero, suc, _+_}
 use mathlib.Core.Path.{_≡_, refl}
-use mathlib.Core.Bool.{Bool, true, false}
+use mathlib.Core.Bool.{Bool, true, false, not}
 use mathlib.Core.Option.{Option, none, some}
+use mathlib.Core.List.{List}
+use lib.ListN.{getD}
+use lib.Dec.{eqb}
 
 -- the lowest of the n numbers i, i + 1, .. that passes the test
 unfoldable pub lowest : (ℕ → Bool) → ℕ → ℕ → Option ℕ
@@ -14,6 +17,10 @@ lowest test (suc n) i = elim (test i) [ true ↦ some i | false ↦ lowest test 
 abbrev pub found {ℓ} : {A : Type ℓ} → Option A → Bool
 found none = false
 found (some a) = true
+
+-- the n numbers of a list from place i on all equal v: given up at the first that does not
+unfoldable pub all-equal : List ℕ → ℕ → ℕ → ℕ → Bool
+all-equal list v i n = not (found (lowest (λ k. not (eqb (getD list k 0) v)) n i))
 
 -- f 0 + f 1 + .. + f (n - 1)
 unfoldable pub total : (ℕ → ℕ) → ℕ → ℕ

@@ -7,12 +7,12 @@ use mathlib.Core.Path.{_≡_, refl}
 use mathlib.Core.List.{List, [], _∷_, _++_}
 use lib.ListN.{replicate}
 use Rattle.rules.specs.Limits.{line-feed}
-use Rattle.rules.specs.Lowest.{lowest, total}
+use Rattle.rules.specs.Lowest.{lowest, all-equal, total}
 use Rattle.rules.specs.Put.{put, fill}
 use Rattle.rules.specs.Table.{rows, column, put-row, lessened}
 use Rattle.rules.specs.Shadow.{leading, inside, shadow-of, addressable, kind, first-bad, judge}
 use Rattle.rules.specs.Answers.{in-numbers, status}
-use Rattle.rules.specs.Grant.{counted, granules, all-free, fits, place, last-granule, granted, empty-row, grant-at, grant}
+use Rattle.rules.specs.Grant.{counted, granules, fits, place, last-granule, granted, empty-row, grant-at, grant}
 use Rattle.rules.specs.Release.{starts-at, row-at, if-quarantined, in-quarantine, weight, weights, older, oldest, paint-row, evict-row, evict-oldest, settle-in, settle, quarantine-row, release-row, release}
 use Rattle.rules.specs.Frames.{hex-digit, number-on, number, with-zero, frame, frame-of-digits, frame-of-line, digit, digits, answer-line}
 use Rattle.rules.specs.Feed.{State, Ran, of-verdict, access, act, emptied, lengthened, act-line, finish, hold, step, run, taken}
@@ -89,8 +89,8 @@ state-after = record { session = fresh 16 4 2 16; shadow = shadow-after; table =
 -- S = 16, R = 2, Q = 16, 4 rows
 pub night : run (opened 16 2 16 4) (text trace) ≡ record { state = state-after; report = text answers }
 unfolding bytes text opened open-with table-length status in-numbers run step hold finish act-line act lengthened emptied access of-verdict
-    judge first-bad kind addressable shadow-of inside leading lowest total put fill rows column put-row lessened
-    counted granules all-free fits place last-granule granted empty-row grant-at grant
+    judge first-bad kind addressable shadow-of inside leading lowest all-equal total put fill rows column put-row lessened
+    counted granules fits place last-granule granted empty-row grant-at grant
     starts-at row-at if-quarantined in-quarantine weight weights older oldest paint-row evict-row evict-oldest settle-in settle quarantine-row release-row release
     hex-digit number-on number with-zero frame frame-of-digits frame-of-line digit digits answer-line
 night = refl
