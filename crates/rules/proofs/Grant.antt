@@ -1,6 +1,6 @@
 -- The laws of a grant: its place is the lowest that keeps the redzone on both sides, 05 and 06 have exact conditions, lengths stay,
 -- and no row but an empty one is touched. Assumes nothing.
-use Prim.Native.Nat.{ℕ, zero, suc, _+_, _-_, _*_, _/_, _%_, _≤_, _<_, zero-le}
+use Prim.Native.Nat.{ℕ, zero, suc, _+_, _-_, _*_, _/_, _%_, _^_, _≤_, _<_, zero-le}
 use native.Mathlib.Omega.{arith}
 use mathlib.Core.Path.{_≡_, refl, sym, ap, subst, _∙_}
 use mathlib.Core.Logic.{_≢_}
@@ -12,7 +12,7 @@ use lib.Seq.{getD-append-add}
 use borrow.Author.Tests.{eqb-true, eq-eqb}
 use Rattle.rules.specs.declared.Answer.{Answer}
 use Rattle.rules.specs.declared.Answer.the-variants.{Done, NoRow, NoPlace}
-use Rattle.rules.specs.Limits.{granule, redzone-byte, row-numbers, empty, live}
+use Rattle.rules.specs.Limits.{granule, most-granules, redzone-byte, row-numbers, empty, live}
 use Rattle.rules.specs.Put.{put}
 use Rattle.rules.specs.Table.{rows, column, state, is-empty, put-row}
 use Rattle.rules.specs.Grant.{Acted, kept, counted, granules, fits, place, last-granule, granted, empty-row, grant-at, grant}
@@ -112,6 +112,10 @@ pub place-no : (shadow : List ℕ) (R u : ℕ) → ((p : ℕ) → Fits shadow R 
 place-no shadow R u nowhere =
     by-found (place shadow R u) (λ q e. absurd (nowhere q (place-some shadow R u q e .fits))) (λ e. e)
 
+-- the address of a place has 32 bits
+pub place-fits : (shadow : List ℕ) (R u p : ℕ) → place shadow R u ≡ some p → length shadow ≤ most-granules → granule * p < 2 ^ 32
+place-fits shadow R u p e most = omega (arith, place-some shadow R u p e .fits .high)
+
 -- ---- what is painted
 
 length-last : (k : ℕ) → k < granule → length (last-granule k) ≡ (k + 7) / granule
@@ -180,7 +184,7 @@ unfolding grant
 grant-done R shadow table s i p row e = rw (row, grant) (rw (e))
 
 -- a place for a block leaves its granules inside the shadow
-place-inside : (R : ℕ) (shadow : List ℕ) (s p : ℕ) → place shadow R (granules s) ≡ some p → p + length (granted s) ≤ length shadow
+pub place-inside : (R : ℕ) (shadow : List ℕ) (s p : ℕ) → place shadow R (granules s) ≡ some p → p + length (granted s) ≤ length shadow
 place-inside R shadow s p e =
     let f : Fits shadow R (granules s) p = place-some shadow R (granules s) p e .fits in
     let high : p + granules s + R ≤ length shadow = f .high in

@@ -8,3 +8,5 @@ pub mod Maps
 pub mod Frames
 pub mod Feed
 pub mod Calls
+pub mod Refusals
+pub mod Written

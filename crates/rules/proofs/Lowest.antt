@@ -200,3 +200,9 @@ total-above f (suc n) l =
     (λ none-here.
     let before : (k : ℕ) × (k < n) × (0 < f k) = total-above f n (let e : total f (suc n) ≡ total f n + f n = total-suc f n in omega arith) in
     (before .0, (let b : before .0 < n = before .1 in omega arith), before .2))
+
+-- n numbers of at most 1 sum to at most n
+pub total-most : (f : ℕ → ℕ) (n : ℕ) → ((j : ℕ) → j < n → f j ≤ 1) → total f n ≤ n
+total-most f zero most = omega (arith, total-zero f)
+total-most f (suc n) most =
+    omega (arith, total-suc f n, total-most f n (λ j below. most j (omega arith)), most n (omega arith))

@@ -2,7 +2,7 @@
 use Prim.Native.Nat.{ℕ, _+_, _-_, _≤_, _<_, min}
 use native.Mathlib.Nat.{add-zero}
 use native.Mathlib.Omega.{arith}
-use mathlib.Core.Path.{_≡_, sym, ap, _∙_}
+use mathlib.Core.Path.{_≡_, sym, ap, subst, _∙_}
 use mathlib.Core.List.{List, [], _++_, append-assoc}
 use lib.ListN.{length, getD, take, drop, replicate, length-append, length-drop, length-replicate, take-append-drop, getD-replicate, List·getD-append}
 use lib.Seq.{length-take-le, getD-append-add, getD-take, getD-drop, sets, sets-eq}
@@ -105,3 +105,33 @@ fill-after whole at n v k d after =
     put-after whole at (replicate (min n (length whole - at)) v) k d (omega arith)
     (let e : length (replicate (min n (length whole - at)) v) ≡ min n (length whole - at) = length-replicate (min n (length whole - at)) v in omega arith))
     (λ past. ap (λ l. getD l k d) (fill-past whole at n v past))
+
+-- ---- what stands at every place
+
+-- each of a list's numbers
+abbrev pub Each : (ℕ → Type 0) → List ℕ → Type 0
+Each P list = (k : ℕ) → k < length list → P (getD list k 0)
+
+pub put-each : (P : ℕ → Type 0) (whole : List ℕ) (at : ℕ) (part : List ℕ) → at + length part ≤ length whole
+    → Each P whole → Each P part → Each P (put whole at part)
+put-each P whole at part room of-whole of-part k below =
+    let in-whole : k < length whole = omega (arith, length-put whole at part room) in
+    by-order k at
+    (λ before. subst P (sym (put-before whole at part k 0 (omega arith) before)) (of-whole k in-whole))
+    (λ from.
+    by-order k (at + length part)
+    (λ in-part.
+    let far : at + (k - at) ≡ k = omega arith in
+    subst P (sym (ap (λ m. getD (put whole at part) m 0) (sym far) ∙ put-in whole at part (k - at) 0 (omega arith) (omega arith)))
+    (of-part (k - at) (omega arith)))
+    (λ after. subst P (sym (put-after whole at part k 0 (omega arith) after)) (of-whole k in-whole)))
+
+pub fill-each : (P : ℕ → Type 0) (whole : List ℕ) (at n v : ℕ) → Each P whole → P v → Each P (fill whole at n v)
+fill-each P whole at n v of-whole of-v k below =
+    let in-whole : k < length whole = omega (arith, length-fill whole at n v) in
+    by-order k at
+    (λ before. subst P (sym (fill-before whole at n v k 0 before)) (of-whole k in-whole))
+    (λ from.
+    by-order k (at + n)
+    (λ filled. subst P (sym (fill-in whole at n v k 0 from filled in-whole)) of-v)
+    (λ after. subst P (sym (fill-after whole at n v k 0 after)) (of-whole k in-whole)))

@@ -18,7 +18,7 @@ use Rattle.rules.specs.Lowest.{total}
 use Rattle.rules.specs.Table.{rows, column, start, size, state, turn, is-quarantined, put-row, lessened}
 use Rattle.rules.specs.Grant.{Acted, kept, granules}
 use Rattle.rules.specs.Release.{starts-at, row-at, if-quarantined, in-quarantine, weight, weights, older, oldest, oldest-zero, oldest-here, oldest-other, Pool, paint-row, evict-row, evict-oldest, Settled, and-one-more, settle-in, settle, quarantine-row, release-row, release}
-use Rattle.rules.proofs.Lowest.{if-true, if-false, by-test, by-found, by-order, Lowest, lowest-some, lowest-none, below-all, total-same, total-change, le-total, total-above}
+use Rattle.rules.proofs.Lowest.{if-true, if-false, by-test, by-found, by-order, Lowest, lowest-some, lowest-none, below-all, total-same, total-change, le-total, total-above, total-most}
 use Rattle.rules.proofs.Put.{length-fill, fill-in, fill-before, fill-after}
 use Rattle.rules.proofs.Table.{rows-same, length-put-row, column-put-row, column-put-row-other, length-lessened, column-lessened, turn-lessened}
 use Rattle.rules.proofs.Grant.{SameLengths}
@@ -293,6 +293,33 @@ settle-light R Q =
     by-evictions R Q (λ pool. weights R (settle R Q pool .pool .table) ≤ Q)
     (λ pool light. subst (λ s. weights R (s .pool .table) ≤ Q) (sym (settle-done R Q pool light)) light)
     (λ pool heavy ih. subst (λ s. weights R (s .pool .table) ≤ Q) (sym (settle-more R Q pool heavy)) ih)
+
+-- the number evicted is the number of rows that left the quarantine
+pub settle-count : (R Q : ℕ) (pool : Pool) → settle R Q pool .evicted + in-quarantine (settle R Q pool .pool .table) ≡ in-quarantine (pool .table)
+settle-count R Q =
+    by-evictions R Q (λ pool. settle R Q pool .evicted + in-quarantine (settle R Q pool .pool .table) ≡ in-quarantine (pool .table))
+    (λ pool light. subst (λ s. s .evicted + in-quarantine (s .pool .table) ≡ in-quarantine (pool .table)) (sym (settle-done R Q pool light)) (omega arith))
+    (λ pool heavy ih.
+    subst (λ s. s .evicted + in-quarantine (s .pool .table) ≡ in-quarantine (pool .table)) (sym (settle-more R Q pool heavy))
+    (omega (arith, evict-oldest-count R Q pool heavy)))
+
+-- so it is at most the number of rows
+pub in-quarantine-most : (table : List ℕ) → in-quarantine table ≤ rows table
+unfolding in-quarantine
+in-quarantine-most table =
+    total-most (if-quarantined table (λ _. 1)) (rows table)
+    (λ j below.
+    by-test (is-quarantined table j)
+    (λ held. le-of-eq (if-quarantined-yes table (λ _. 1) j held))
+    (λ other. omega (arith, if-quarantined-no table (λ _. 1) j other)))
+
+pub evicted-most : (R Q : ℕ) (pool : Pool) → settle R Q pool .evicted ≤ rows (pool .table)
+evicted-most R Q pool = omega (arith, settle-count R Q pool, in-quarantine-most (pool .table))
+
+-- a block weighs the size asked for
+pub weight-size : (R s : ℕ) → weight R s ≡ s
+unfolding weight
+weight-size R s = refl
 
 -- so a block heavier than Q leaves at once
 pub none-heavier : (R Q : ℕ) (pool : Pool) (i : ℕ) → i < rows (settle R Q pool .pool .table)

@@ -1,5 +1,5 @@
 -- The laws of the shadow byte and of the range rule. Assumes nothing.
-use Prim.Native.Nat.{ℕ, zero, suc, _+_, _-_, _*_, _/_, _%_, _≤_, _<_, zero-le}
+use Prim.Native.Nat.{ℕ, zero, suc, _+_, _-_, _*_, _/_, _%_, _^_, _≤_, _<_, zero-le}
 use native.Mathlib.Omega.{arith}
 use mathlib.Core.Path.{_≡_, refl, sym, ap, subst, _∙_}
 use mathlib.Core.Logic.{_↔_, _≢_}
@@ -13,7 +13,7 @@ use lib.Signed.{ltZ}
 use borrow.Author.Tests.{ltb-true, ltb-false, eqb-true, eqb-false, not-true, not-false, lt-ltb, le-ltb, ne-eqb}
 use Rattle.rules.specs.declared.Verdict.{Verdict}
 use Rattle.rules.specs.declared.Verdict.the-variants.{Good, Bad}
-use Rattle.rules.specs.Limits.{granule, outside}
+use Rattle.rules.specs.Limits.{granule, most-granules, outside}
 use Rattle.rules.specs.Shadow.{leading, signed, negative, inside, shadow-of, addressable, kind, first-bad, judge}
 use Rattle.rules.proofs.Lowest.{if-true, if-false, by-test, by-found, by-order, Lowest, lowest-some, lowest-none, lowest-is, lowest-no}
 
@@ -152,11 +152,11 @@ unfolding first-bad
 first-bad-no shadow a n good =
     lowest-no (λ m. not (addressable shadow m)) n a (λ j from below. ap not (good j from below))
 
-verdict-none : (shadow : List ℕ) (a n : ℕ) → first-bad shadow a n ≡ none → judge shadow a n ≡ Good
+pub verdict-none : (shadow : List ℕ) (a n : ℕ) → first-bad shadow a n ≡ none → judge shadow a n ≡ Good
 unfolding judge
 verdict-none shadow a n e = rw (e, judge)
 
-verdict-some : (shadow : List ℕ) (a n b : ℕ) → first-bad shadow a n ≡ some b → judge shadow a n ≡ Bad (kind shadow b) b
+pub verdict-some : (shadow : List ℕ) (a n b : ℕ) → first-bad shadow a n ≡ some b → judge shadow a n ≡ Bad (kind shadow b) b
 unfolding judge
 verdict-some shadow a n b e = rw (e, judge)
 
@@ -197,3 +197,9 @@ pub first-bad-most : (shadow : List ℕ) (a n b : ℕ) → FirstBad shadow a n b
 first-bad-most shadow a n b f above =
     let last : b - 1 < granule * length shadow = addressable-inside shadow (b - 1) (f .first (b - 1) (omega arith) (omega arith)) in
     omega arith
+
+pub first-bad-fits : (shadow : List ℕ) (a n b : ℕ) → FirstBad shadow a n b → a < 2 ^ 32 → length shadow ≤ most-granules → b < 2 ^ 32
+first-bad-fits shadow a n b f fits most =
+    by-order a b
+    (λ above. omega (arith, first-bad-most shadow a n b f above))
+    (λ here. omega (arith, f .from))

@@ -6,7 +6,7 @@ use Prim.Native.Char.{code}
 use mathlib.Core.Path.{_≡_, refl}
 use mathlib.Core.List.{List, [], _∷_, _++_}
 use lib.ListN.{replicate}
-use Rattle.rules.specs.Limits.{line-feed}
+use Rattle.rules.specs.Limits.{row-numbers, line-feed}
 use Rattle.rules.specs.Lowest.{lowest, all-equal, total}
 use Rattle.rules.specs.Put.{put, fill}
 use Rattle.rules.specs.Table.{rows, column, put-row, lessened}
@@ -31,7 +31,7 @@ text (line ∷ lines) = bytes line ++ line-feed ∷ text lines
 -- what an opening of S granules and the rows gives
 unfoldable pub opened : ℕ → ℕ → ℕ → ℕ → State
 opened S R Q n =
-    let o : OpenedWith = open-with (replicate S 0) (replicate (4 * n) 0) R Q in
+    let o : OpenedWith = open-with (replicate S 0) (replicate (row-numbers * n) 0) R Q in
     record { session = o .given .session; shadow = o .shadow; table = o .table }
 
 abbrev pub trace : List String
@@ -86,11 +86,79 @@ table-after = 2 ∷ 16 ∷ 1 ∷ 0 ∷ 6 ∷ 1 ∷ 2 ∷ 1 ∷ 9 ∷ 8 ∷ 2 ∷
 abbrev pub state-after : State
 state-after = record { session = fresh 16 4 2 16; shadow = shadow-after; table = table-after }
 
--- S = 16, R = 2, Q = 16, 4 rows
-pub night : run (opened 16 2 16 4) (text trace) ≡ record { state = state-after; report = text answers }
+-- every definition that a text goes through: to unfold this one is to unfold them all
+by-the-rules : State → List ℕ → Ran
 unfolding bytes text opened open-with table-length status in-numbers run step hold finish act-line act lengthened emptied access of-verdict
     judge first-bad kind addressable shadow-of inside leading lowest all-equal total put fill rows column put-row lessened
     counted granules fits place last-granule granted empty-row grant-at grant
     starts-at row-at if-quarantined in-quarantine weight weights older oldest paint-row evict-row evict-oldest settle-in settle quarantine-row release-row release
     hex-digit number-on number with-zero frame frame-of-digits frame-of-line digit digits answer-line
+    taken unused-zero within-limits fits-lent feed
+by-the-rules = run
+
+-- S = 16, R = 2, Q = 16, 4 rows: the whole report, the shadow, the rows and the session after
+pub night : run (opened 16 2 16 4) (text trace) ≡ record { state = state-after; report = text answers }
+unfolding by-the-rules
 night = refl
+
+-- the same as one call, in a room of just 16 answers: all 16 x 19 bytes are taken and 16 x 13 written
+pub night-fed : feed (fresh 16 4 2 16) (replicate 16 0xfa) (replicate 16 0) (text trace) (replicate 208 0)
+    ≡ record {
+      given = record { session = fresh 16 4 2 16; status = 0; taken = 304; wrote = 208 };
+      shadow = shadow-after;
+      table = table-after;
+      room = text answers;
+    }
+unfolding by-the-rules
+night-fed = refl
+
+-- with one row, a second grant answers 05
+pub one-row :
+    run (opened 16 2 16 1) (text ("010000000d00000000" ∷ "010000000100000000" ∷ []))
+    ≡ record {
+      state = record {
+        session = fresh 16 1 2 16;
+        shadow = 0xfa ∷ 0xfa ∷ 0x00 ∷ 0x05 ∷ replicate 12 0xfa;
+        table = 2 ∷ 13 ∷ 1 ∷ 0 ∷ [];
+      };
+      report = text ("000000000010" ∷ "050000000000" ∷ []);
+    }
+unfolding by-the-rules
+one-row = refl
+
+-- ---- how readings would get lost, where the night alone does not show it
+
+-- an access near ffffffff does not wrap into the live block at 10
+pub no-wrap : run state-after (text ("03fffffffc00000020" ∷ [])) ≡ record { state = state-after; report = text ("09fffffffffc" ∷ []) }
+unfolding by-the-rules
+no-wrap = refl
+
+-- the unaligned access of source document 000, bytes 6 to 9 of a block of 8, is reported at its first byte past the block
+pub unaligned :
+    run (opened 16 2 16 4) (text ("010000000800000000" ∷ "040000001600000004" ∷ [])) .report ≡ text ("000000000010" ∷ "09fa00000018" ∷ [])
+unfolding by-the-rules
+unaligned = refl
+
+-- ---- scribbled buffers: the same rules apply to whatever is found
+
+-- S = 8, Q = ffffffff. Row 0 reaches past the shadow, rows 1 and 2 weigh more than 32 bits hold between them, row 3 is in no state.
+-- Row 0 is released: its turn is 3, as theirs is, so it leaves first, being the lower row, and then row 1. Every other row's turn is
+-- lessened twice, row 3's too. A shadow byte 7f makes no byte addressable
+pub scribbled :
+    run
+    (record {
+      session = fresh 8 4 2 0xffff_ffff;
+      shadow = 0x7f ∷ 0x05 ∷ 0xfd ∷ 0xfd ∷ 0x00 ∷ 0x00 ∷ 0x00 ∷ 0x00 ∷ [];
+      table = 6 ∷ 100 ∷ 1 ∷ 7 ∷ 1 ∷ 0xffff_ffff ∷ 2 ∷ 3 ∷ 2 ∷ 0xffff_ffff ∷ 2 ∷ 3 ∷ 9 ∷ 9 ∷ 3 ∷ 5 ∷ [];
+    })
+    (text ("020000003000000000" ∷ "030000000000000001" ∷ []))
+    ≡ record {
+      state = record {
+        session = fresh 8 4 2 0xffff_ffff;
+        shadow = 0x7f ∷ 0xfa ∷ 0xfa ∷ 0xfa ∷ 0xfa ∷ 0xfa ∷ 0xfa ∷ 0xfa ∷ [];
+        table = 0 ∷ 0 ∷ 0 ∷ 0 ∷ 0 ∷ 0 ∷ 0 ∷ 0 ∷ 2 ∷ 0xffff_ffff ∷ 2 ∷ 1 ∷ 9 ∷ 9 ∷ 3 ∷ 3 ∷ [];
+      };
+      report = text ("000000000002" ∷ "097f00000000" ∷ []);
+    }
+unfolding by-the-rules
+scribbled = refl

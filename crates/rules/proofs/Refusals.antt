@@ -1,0 +1,298 @@
+-- When the watcher says no, and only when: each number of the table the other way round. That a number is given where its row says
+-- so is among the laws of its section; here, that it is given nowhere else. Assumes nothing.
+use Prim.Native.Nat.{ℕ, _+_, _*_, _≤_, _<_}
+use native.Mathlib.Decide.{ℕ-discrete}
+use native.Mathlib.Omega.{arith}
+use mathlib.Core.Path.{_≡_, refl, sym, ap, subst, _∙_}
+use mathlib.Core.Logic.{_≢_}
+use mathlib.Core.Bool.{Bool, true, false}
+use mathlib.Core.Option.{none, some, Option·none-ne-some}
+use mathlib.Core.List.{List}
+use lib.ListN.{length}
+use borrow.Author.Tests.{le-leb}
+use Rattle.rules.specs.declared.Session.{Session}
+use Rattle.rules.specs.declared.Answer.{Answer}
+use Rattle.rules.specs.declared.Answer.the-variants.{Done, BadLine, BadKind, NotZero, NoRow, NoPlace, NotHeld, Released, NotGood, BadSession}
+use Rattle.rules.specs.declared.Verdict.the-variants.{Good, Bad}
+use Rattle.rules.specs.declared.Frame.{Frame}
+use Rattle.rules.specs.declared.Frame.the-variants.{Grant, Release, Read, Write, Refused}
+use Rattle.rules.specs.declared.Region.{Region}
+use Rattle.rules.specs.Limits.{between, least-granules, most-granules, least-redzone, most-redzone, kind-grant, kind-release, kind-read, kind-write, live, quarantined}
+use Rattle.rules.specs.Answers.{in-numbers, status}
+use Rattle.rules.specs.Shadow.{kind, first-bad, judge}
+use Rattle.rules.specs.Grant.{Acted, counted, granules, place, empty-row, grant-at, grant}
+use Rattle.rules.specs.Release.{row-at, release-row, release}
+use Rattle.rules.specs.Frames.{with-zero, frame}
+use Rattle.rules.specs.Feed.{of-verdict, access, act}
+use Rattle.rules.specs.Calls.{table-length, open-with, within-limits, fits-lent, grant-call, release-call, access-call, unfinished-call, feed}
+use Rattle.rules.specs.Maps.{Map, region, region-number, map-answer, map-call}
+use Rattle.rules.proofs.Lowest.{by-test, by-found, by-order}
+use Rattle.rules.proofs.Shadow.{FirstBad, first-bad-some, verdict-none, verdict-some}
+use Rattle.rules.proofs.Grant.{grant-no-row, grant-no-place, grant-done}
+use Rattle.rules.proofs.Release.{release-nothing, release-done, release-twice, release-foreign}
+use Rattle.rules.proofs.Frames.{frame-grant, frame-release, frame-read, frame-write, frame-other, with-zero-is, with-zero-not}
+use Rattle.rules.proofs.Calls.{open-bad-shadow, open-bad-redzone, open-bad-table, open-done, grant-as-frame, release-as-frame, access-as-frame, unfinished-done, feed-done}
+use Rattle.rules.proofs.Maps.{Published, in-low-mem, in-low-shadow, in-gap, in-high-shadow, in-high-mem, beyond, map-call-at}
+
+-- ---- grants: 05 and 06
+
+-- what a grant answers, by what it finds
+answer-grant : (R : ℕ) (shadow table : List ℕ) (s : ℕ) (P : Answer → Type 0)
+    → (empty-row table ≡ none → P NoRow)
+    → (place shadow R (granules (counted s)) ≡ none → (i : ℕ) → empty-row table ≡ some i → P NoPlace)
+    → ((p : ℕ) → P (Done (8 * p))) → P (grant R shadow table s .answer)
+unfolding grant-at
+answer-grant R shadow table s P no-row no-place done =
+    by-found (empty-row table)
+    (λ i row.
+    by-found (place shadow R (granules (counted s)))
+    (λ p e. subst (λ a. P (a .answer)) (sym (grant-done R shadow table s i p row e)) (done p))
+    (λ e. subst (λ a. P (a .answer)) (sym (grant-no-place R shadow table s i row e)) (no-place e i row)))
+    (λ row. subst (λ a. P (a .answer)) (sym (grant-no-row R shadow table s row)) (no-row row))
+
+pub only-05 : (R : ℕ) (shadow table : List ℕ) (s : ℕ) → status (grant R shadow table s .answer) ≡ 5 → empty-row table ≡ none
+unfolding status in-numbers
+only-05 R shadow table s =
+    answer-grant R shadow table s (λ a. status a ≡ 5 → empty-row table ≡ none)
+    (λ row e. row) (λ nowhere i row e. absurd (omega arith)) (λ p e. absurd (omega arith))
+
+pub only-06 : (R : ℕ) (shadow table : List ℕ) (s : ℕ) → status (grant R shadow table s .answer) ≡ 6 → place shadow R (granules (counted s)) ≡ none
+unfolding status in-numbers
+only-06 R shadow table s =
+    answer-grant R shadow table s (λ a. status a ≡ 6 → place shadow R (granules (counted s)) ≡ none)
+    (λ row e. absurd (omega arith)) (λ nowhere i row e. nowhere) (λ p e. absurd (omega arith))
+
+-- ---- releases: 07 and 08
+
+answer-release : (R Q : ℕ) (shadow table : List ℕ) (a : ℕ) (P : Answer → Type 0)
+    → ((n : ℕ) → P (Done n))
+    → (a ≢ 0 → row-at live table a ≡ none → row-at quarantined table a ≡ none → P NotHeld)
+    → (a ≢ 0 → row-at live table a ≡ none → (i : ℕ) → row-at quarantined table a ≡ some i → P Released)
+    → P (release R Q shadow table a .answer)
+unfolding release-row
+answer-release R Q shadow table a P done foreign twice =
+    elim (ℕ-discrete a 0) [
+      | yes e ↦ subst (λ b. P (release R Q shadow table b .answer)) (sym e) (subst (λ r. P (r .answer)) (sym (release-nothing R Q shadow table)) (done 0))
+      | no above ↦
+          by-found (row-at live table a)
+          (λ i e. subst (λ r. P (r .answer)) (sym (release-done R Q shadow table a i above e)) (done _))
+          (λ e.
+          by-found (row-at quarantined table a)
+          (λ i f. subst (λ r. P (r .answer)) (sym (release-twice R Q shadow table a i above e f)) (twice above e i f))
+          (λ f. subst (λ r. P (r .answer)) (sym (release-foreign R Q shadow table a above e f)) (foreign above e f)))
+    ]
+
+pub only-07 : (R Q : ℕ) (shadow table : List ℕ) (a : ℕ) → status (release R Q shadow table a .answer) ≡ 7
+    → (a ≢ 0) × (row-at live table a ≡ none) × (row-at quarantined table a ≡ none)
+unfolding status in-numbers
+only-07 R Q shadow table a =
+    answer-release R Q shadow table a (λ r. status r ≡ 7 → (a ≢ 0) × (row-at live table a ≡ none) × (row-at quarantined table a ≡ none))
+    (λ n e. absurd (omega arith)) (λ above no-live no-quarantined e. (above, no-live, no-quarantined)) (λ above no-live i f e. absurd (omega arith))
+
+pub only-08 : (R Q : ℕ) (shadow table : List ℕ) (a : ℕ) → status (release R Q shadow table a .answer) ≡ 8
+    → (a ≢ 0) × (row-at live table a ≡ none) × (row-at quarantined table a ≢ none)
+unfolding status in-numbers
+only-08 R Q shadow table a =
+    answer-release R Q shadow table a (λ r. status r ≡ 8 → (a ≢ 0) × (row-at live table a ≡ none) × (row-at quarantined table a ≢ none))
+    (λ n e. absurd (omega arith)) (λ above no-live no-quarantined e. absurd (omega arith))
+    (λ above no-live i f e. (above, no-live, λ g. Option·none-ne-some i (sym g ∙ f)))
+
+-- ---- accesses: 09, with the first bad byte and its kind
+
+pub access-good : (shadow : List ℕ) (a n : ℕ) → first-bad shadow a n ≡ none → access shadow a n ≡ Done 0
+unfolding access of-verdict
+access-good shadow a n e = ap of-verdict (verdict-none shadow a n e)
+
+pub access-bad : (shadow : List ℕ) (a n b : ℕ) → first-bad shadow a n ≡ some b → access shadow a n ≡ NotGood (kind shadow b) b
+unfolding access of-verdict
+access-bad shadow a n b e = ap of-verdict (verdict-some shadow a n b e)
+
+pub only-09 : (shadow : List ℕ) (a n : ℕ) → status (access shadow a n) ≢ 0
+    → (b : ℕ) × FirstBad shadow a n b × (access shadow a n ≡ NotGood (kind shadow b) b)
+unfolding status in-numbers
+only-09 shadow a n refused =
+    by-found (first-bad shadow a n)
+    (λ b e. (b, first-bad-some shadow a n b e, access-bad shadow a n b e))
+    (λ e. absurd (refused (ap status (access-good shadow a n e))))
+
+-- ---- lines: 01 to 03 (that 01 is given where a line is not 18 hex digits: `line-length`, `line-bad`)
+
+-- a frame's number, 0 where it is not refused
+unfoldable pub refusal : Frame → ℕ
+refusal (Grant s) = 0
+refusal (Release a) = 0
+refusal (Read a n) = 0
+refusal (Write a n) = 0
+refusal (Refused answer) = status answer
+
+-- what a frame is, by its kind and B
+by-frame : (kind A B : ℕ) (P : Frame → Type 0)
+    → ((k : Frame) → refusal k ≡ 0 → P k)
+    → ((kind ≡ kind-grant → ⊥) → (kind ≡ kind-release → ⊥) → (kind ≡ kind-read → ⊥) → (kind ≡ kind-write → ⊥) → P (Refused BadKind))
+    → (B ≢ 0 → kind ≤ kind-release → P (Refused NotZero)) → P (frame kind A B)
+unfolding refusal
+by-frame kind A B P asked other not-zero =
+    elim (ℕ-discrete kind kind-grant) [
+      | yes e ↦ subst (λ k. P (frame k A B)) (sym e) (subst P (sym (frame-grant A B)) (zeroed (Grant A) refl (omega arith)))
+      | no not-grant ↦
+          elim (ℕ-discrete kind kind-release) [
+            | yes e ↦ subst (λ k. P (frame k A B)) (sym e) (subst P (sym (frame-release A B)) (zeroed (Release A) refl (omega arith)))
+            | no not-release ↦
+                elim (ℕ-discrete kind kind-read) [
+                  | yes e ↦ subst (λ k. P (frame k A B)) (sym e) (subst P (sym (frame-read A B)) (asked (Read A B) refl))
+                  | no not-read ↦
+                      elim (ℕ-discrete kind kind-write) [
+                        | yes e ↦ subst (λ k. P (frame k A B)) (sym e) (subst P (sym (frame-write A B)) (asked (Write A B) refl))
+                        | no not-write ↦ subst P (sym (frame-other kind A B not-grant not-release not-read not-write)) (other not-grant not-release not-read not-write)
+                      ]
+                ]
+          ]
+    ]
+  where
+    zeroed : (k : Frame) → refusal k ≡ 0 → kind ≤ kind-release → P (with-zero B k)
+    zeroed k fine small =
+        elim (ℕ-discrete B 0) [
+          | yes e ↦ subst (λ c. P (with-zero c k)) (sym e) (subst P (sym (with-zero-is k)) (asked k fine))
+          | no above ↦ subst P (sym (with-zero-not B k above)) (not-zero above small)
+        ]
+
+-- 18 hex digits are never refused 01
+pub only-01 : (kind A B : ℕ) → refusal (frame kind A B) ≢ 1
+unfolding refusal status in-numbers
+only-01 kind A B =
+    by-frame kind A B (λ k. refusal k ≢ 1) (λ k fine e. absurd (omega arith)) (λ a b c d e. absurd (omega arith)) (λ above small e. absurd (omega arith))
+
+pub only-02 : (kind A B : ℕ) → refusal (frame kind A B) ≡ 2 → kind-grant ≤ kind → kind ≤ kind-write → ⊥
+unfolding refusal status in-numbers
+only-02 kind A B =
+    by-frame kind A B (λ k. refusal k ≡ 2 → kind-grant ≤ kind → kind ≤ kind-write → ⊥)
+    (λ k fine e from upto. omega arith)
+    (λ a b c d e from upto. omega arith)
+    (λ above small e from upto. omega arith)
+
+pub only-03 : (kind A B : ℕ) → refusal (frame kind A B) ≡ 3 → (B ≢ 0) × (kind ≤ kind-release)
+unfolding refusal status in-numbers
+only-03 kind A B =
+    by-frame kind A B (λ k. refusal k ≡ 3 → (B ≢ 0) × (kind ≤ kind-release))
+    (λ k fine e. absurd (omega arith)) (λ a b c d e. absurd (omega arith)) (λ above small e. (above, small))
+
+-- ---- openings: 21 to 23
+
+answer-open : (shadow table : List ℕ) (R Q : ℕ) (P : ℕ → Type 0)
+    → (between least-granules most-granules (length shadow) ≡ false → P 21)
+    → (between least-redzone most-redzone R ≡ false → P 22)
+    → (table-length (length table) ≡ false → P 23)
+    → P 0 → P (open-with shadow table R Q .given .status)
+unfolding status in-numbers
+answer-open shadow table R Q P bad-shadow bad-redzone bad-table done =
+    by-test (between least-granules most-granules (length shadow))
+    (λ a.
+    by-test (between least-redzone most-redzone R)
+    (λ b.
+    by-test (table-length (length table))
+    (λ c. subst (λ o. P (o .given .status)) (sym (open-done shadow table R Q a b c)) done)
+    (λ c. subst (λ o. P (o .given .status)) (sym (open-bad-table shadow table R Q a b c)) (bad-table c)))
+    (λ b. subst (λ o. P (o .given .status)) (sym (open-bad-redzone shadow table R Q a b)) (bad-redzone b)))
+    (λ a. subst (λ o. P (o .given .status)) (sym (open-bad-shadow shadow table R Q a)) (bad-shadow a))
+
+pub only-21 : (shadow table : List ℕ) (R Q : ℕ) → open-with shadow table R Q .given .status ≡ 21 → between least-granules most-granules (length shadow) ≡ false
+only-21 shadow table R Q =
+    answer-open shadow table R Q (λ n. n ≡ 21 → between least-granules most-granules (length shadow) ≡ false)
+    (λ a e. a) (λ b e. absurd (omega arith)) (λ c e. absurd (omega arith)) (λ e. absurd (omega arith))
+
+pub only-22 : (shadow table : List ℕ) (R Q : ℕ) → open-with shadow table R Q .given .status ≡ 22 → between least-redzone most-redzone R ≡ false
+only-22 shadow table R Q =
+    answer-open shadow table R Q (λ n. n ≡ 22 → between least-redzone most-redzone R ≡ false)
+    (λ a e. absurd (omega arith)) (λ b e. b) (λ c e. absurd (omega arith)) (λ e. absurd (omega arith))
+
+pub only-23 : (shadow table : List ℕ) (R Q : ℕ) → open-with shadow table R Q .given .status ≡ 23 → table-length (length table) ≡ false
+only-23 shadow table R Q =
+    answer-open shadow table R Q (λ n. n ≡ 23 → table-length (length table) ≡ false)
+    (λ a e. absurd (omega arith)) (λ b e. absurd (omega arith)) (λ c e. c) (λ e. absurd (omega arith))
+
+-- ---- later calls: 24
+
+pub only-24-grant : (session : Session) (shadow table : List ℕ) (s : ℕ) → status (grant-call session shadow table s .answer) ≡ 24
+    → fits-lent session shadow table ≡ false
+unfolding act status in-numbers
+only-24-grant session shadow table s e =
+    by-test (fits-lent session shadow table)
+    (λ fits.
+    absurd
+    (answer-grant (session .redzone) shadow table s (λ a. status a ≢ 24)
+    (λ row f. absurd (omega arith)) (λ nowhere i row f. absurd (omega arith)) (λ p f. absurd (omega arith))
+    (ap (λ a. status (a .answer)) (sym (grant-as-frame session shadow table s fits)) ∙ e)))
+    (λ unfit. unfit)
+
+pub only-24-release : (session : Session) (shadow table : List ℕ) (a : ℕ) → status (release-call session shadow table a .answer) ≡ 24
+    → fits-lent session shadow table ≡ false
+unfolding act status in-numbers
+only-24-release session shadow table a e =
+    by-test (fits-lent session shadow table)
+    (λ fits.
+    absurd
+    (answer-release (session .redzone) (session .quarantine) shadow table a (λ r. status r ≢ 24)
+    (λ n f. absurd (omega arith)) (λ above no-live no-quarantined f. absurd (omega arith)) (λ above no-live i g f. absurd (omega arith))
+    (ap (λ r. status (r .answer)) (sym (release-as-frame session shadow table a fits)) ∙ e)))
+    (λ unfit. unfit)
+
+pub only-24-access : (session : Session) (shadow table : List ℕ) (a n : ℕ) → status (access-call session shadow table a n) ≡ 24
+    → fits-lent session shadow table ≡ false
+unfolding act status in-numbers
+only-24-access session shadow table a n e =
+    by-test (fits-lent session shadow table)
+    (λ fits.
+    let f : status (access shadow a n) ≡ 24 = ap (λ r. status (r .answer)) (sym (access-as-frame session shadow table a n fits)) ∙ e in
+    by-found (first-bad shadow a n)
+    (λ b g. absurd (omega (arith, ap status (access-bad shadow a n b g))))
+    (λ g. absurd (omega (arith, ap status (access-good shadow a n g)))))
+    (λ unfit. unfit)
+
+pub only-24-unfinished : (session : Session) → status (unfinished-call session) ≡ 24 → within-limits session ≡ false
+unfolding status in-numbers
+only-24-unfinished session e =
+    by-test (within-limits session)
+    (λ fits. absurd (omega (arith, ap status (unfinished-done session fits))))
+    (λ unfit. unfit)
+
+pub only-24-feed : (session : Session) (shadow table piece room : List ℕ) → feed session shadow table piece room .given .status ≡ 24
+    → fits-lent session shadow table ≡ false
+unfolding status in-numbers
+only-24-feed session shadow table piece room e =
+    by-test (fits-lent session shadow table)
+    (λ fits. absurd (omega (arith, ap (λ f. f .given .status) (feed-done session shadow table piece room fits))))
+    (λ unfit. unfit)
+
+-- ---- maps: 31 and 32
+
+module _ (map : Map) (p : Published map) (a : ℕ) where
+  -- what a map answers, by the region
+  answer-map : (P : ℕ → Type 0) → (map .high-mem < a → P 31) → (map .low-shadow < a → a ≤ map .shadow-gap → P 32) → P 0 → P (map-call map a .status)
+  unfolding status in-numbers map-answer
+  answer-map P past gap done =
+      by-order (map .low-mem) a
+      (λ above-low.
+      by-order (map .low-shadow) a
+      (λ above-shadow.
+      by-order (map .shadow-gap) a
+      (λ above-gap.
+      by-order (map .high-shadow) a
+      (λ above-high.
+      by-order (map .high-mem) a
+      (λ above-all. at (beyond map p a above-all) (past above-all))
+      (λ in-high. at (in-high-mem map p a above-high in-high) done))
+      (λ in-shadow. at (in-high-shadow map p a above-gap in-shadow) done))
+      (λ in-the-gap. at (in-gap map p a above-shadow in-the-gap) (gap above-shadow in-the-gap)))
+      (λ in-low. at (in-low-shadow map p a above-low in-low) done))
+      (λ in-low. at (in-low-mem map p a in-low) done)
+    where
+      at : {r : Region} → region map a ≡ r → P (status (map-answer r)) → P (map-call map a .status)
+      at {r} e x = subst (λ m. P (m .status)) (sym (map-call-at map a r e)) x
+
+  pub only-31 : map-call map a .status ≡ 31 → map .high-mem < a
+  only-31 = answer-map (λ n. n ≡ 31 → map .high-mem < a) (λ past e. past) (λ first last e. absurd (omega arith)) (λ e. absurd (omega arith))
+
+  pub only-32 : map-call map a .status ≡ 32 → (map .low-shadow < a) × (a ≤ map .shadow-gap)
+  only-32 =
+      answer-map (λ n. n ≡ 32 → (map .low-shadow < a) × (a ≤ map .shadow-gap))
+      (λ past e. absurd (omega arith)) (λ first last e. (first, last)) (λ e. absurd (omega arith))
