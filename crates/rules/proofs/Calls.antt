@@ -1,29 +1,28 @@
 -- The laws of the calls: when an opening is refused and what it leaves, what the check behind 24 says, that a session handed back is
 -- taken again, that direct calls answer as their frames do, and what a feed leaves of its room. Assumes nothing.
-use Prim.Native.Nat.{ℕ, zero, suc, _+_, _-_, _*_, _/_, _%_, _≤_, _<_, zero-le}
-use native.Mathlib.Nat.{le-of-eq}
+use Prim.Native.Nat.{ℕ, _+_, _-_, _*_, _/_, _%_, _≤_, zero-le}
 use native.Mathlib.Omega.{arith}
-use mathlib.Core.Path.{_≡_, refl, sym, ap, ap₂, subst, _∙_}
+use mathlib.Core.Path.{_≡_, refl, sym, ap, subst, _∙_}
 use mathlib.Core.Logic.{_≢_}
-use mathlib.Core.Bool.{Bool, true, false, _&&_, true≢false, and-eq-true-iff}
-use mathlib.Core.List.{List, [], _∷_, _++_}
+use mathlib.Core.Bool.{Bool, true, false, _&&_, and-eq-true-iff}
+use mathlib.Core.List.{List, []}
 use lib.ListN.{length, getD, set, take, replicate, length-replicate, getD-replicate}
 use lib.Seq.{getD-set-other}
-use lib.Dec.{eqb, leb}
-use borrow.Author.Tests.{eqb-true, eq-eqb, leb-true, le-leb, ne-eqb}
+use lib.Dec.{eqb}
+use borrow.Author.Tests.{eqb-true, eq-eqb, leb-true, le-leb}
 use Rattle.rules.specs.declared.Session.{Session}
 use Rattle.rules.specs.declared.Answer.the-variants.{Done, BadShadowLength, BadRedzone, BadTableLength, BadSession}
-use Rattle.rules.specs.declared.Frame.the-variants.{Grant, Release, Read, Write}
-use Rattle.rules.specs.Limits.{between, least-granules, most-granules, least-rows, most-rows, row-numbers, least-redzone, most-redzone, frame-digits, too-long, redzone-byte, answer-bytes}
+use Rattle.rules.specs.declared.Frame.the-variants.{Grant, Release, Read}
+use Rattle.rules.specs.Limits.{between, least-granules, most-granules, least-rows, most-rows, row-numbers, least-redzone, most-redzone, frame-digits, too-long, redzone-byte}
 use Rattle.rules.specs.Answers.{in-numbers, status}
-use Rattle.rules.specs.Put.{put}
-use Rattle.rules.specs.Grant.{Acted, kept}
-use Rattle.rules.specs.Feed.{State, Ran, no-bytes, with-line, emptied, lengthened, access, act, finish, hold, step, run, taken}
-use Rattle.rules.specs.Calls.{closed, fresh, table-length, OpenedWith, not-opened, open-with, unused-zero, within-limits, fits-lent, grant-call, release-call, access-call, unfinished-call, FedWith, fed-with, feed}
+use Rattle.rules.specs.Lowest.{lowest, all-equal}
+use Rattle.rules.specs.Grant.{kept}
+use Rattle.rules.specs.Feed.{State, Ran, no-bytes, with-line, emptied, lengthened, act, finish, hold, step, run, taken}
+use Rattle.rules.specs.Calls.{closed, fresh, table-length, OpenedWith, not-opened, open-with, unused-zero, within-limits, fits-lent, grant-call, release-call, access-call, unfinished-call, fed-with, feed}
 use Rattle.rules.proofs.Lowest.{if-true, if-false, by-test, by-order, AllEqual, all-equal-true, all-equal-is}
-use Rattle.rules.proofs.Put.{length-put, put-in, put-after, put-nothing}
+use Rattle.rules.proofs.Put.{length-put, put-after, put-nothing}
 use Rattle.rules.proofs.Frames.{between-true, between-is}
-use Rattle.rules.proofs.Feed.{SameNumbers, lengthened-short, lengthened-long, by-byte, step-numbers, step-lengths, run-has, run-lengths, run-report, taken-fits, line-feeds}
+use Rattle.rules.proofs.Feed.{SameNumbers, lengthened-short, lengthened-long, by-byte, step-numbers, step-lengths, run-has, run-report, taken-fits}
 
 -- ---- the check behind 24
 
@@ -181,23 +180,32 @@ pub open-done : (shadow table : List ℕ) (R Q : ℕ) → between least-granules
 unfolding open-with
 open-done shadow table R Q a b c = if-true _ _ a ∙ if-true _ _ b ∙ if-true _ _ c
 
--- a refused opening gives the closed session and writes nothing
-pub open-refused : (shadow table : List ℕ) (R Q : ℕ) → open-with shadow table R Q .given .status ≢ 0
-    → (open-with shadow table R Q .given .session ≡ closed) × (open-with shadow table R Q .shadow ≡ shadow) × (open-with shadow table R Q .table ≡ table)
-unfolding status in-numbers
-open-refused shadow table R Q =
+-- by what an opening finds
+pub by-open {ℓ} : (shadow table : List ℕ) (R Q : ℕ) (P : OpenedWith → Type ℓ)
+    → (between least-granules most-granules (length shadow) ≡ false → P (not-opened BadShadowLength shadow table))
+    → (between least-redzone most-redzone R ≡ false → P (not-opened BadRedzone shadow table))
+    → (table-length (length table) ≡ false → P (not-opened BadTableLength shadow table))
+    → P (opened-with shadow table R Q) → P (open-with shadow table R Q)
+by-open shadow table R Q P bad-shadow bad-redzone bad-table done =
     by-test (between least-granules most-granules (length shadow))
     (λ a.
     by-test (between least-redzone most-redzone R)
     (λ b.
     by-test (table-length (length table))
-    (λ c. subst Kept (sym (open-done shadow table R Q a b c)) (λ refused. absurd (refused refl)))
-    (λ c. subst Kept (sym (open-bad-table shadow table R Q a b c)) (λ refused. (refl, refl, refl))))
-    (λ b. subst Kept (sym (open-bad-redzone shadow table R Q a b)) (λ refused. (refl, refl, refl))))
-    (λ a. subst Kept (sym (open-bad-shadow shadow table R Q a)) (λ refused. (refl, refl, refl)))
-  where
-    Kept : OpenedWith → Type 0
-    Kept o = o .given .status ≢ 0 → (o .given .session ≡ closed) × (o .shadow ≡ shadow) × (o .table ≡ table)
+    (λ c. subst P (sym (open-done shadow table R Q a b c)) done)
+    (λ c. subst P (sym (open-bad-table shadow table R Q a b c)) (bad-table c)))
+    (λ b. subst P (sym (open-bad-redzone shadow table R Q a b)) (bad-redzone b)))
+    (λ a. subst P (sym (open-bad-shadow shadow table R Q a)) (bad-shadow a))
+
+-- a refused opening gives the closed session and writes nothing
+abbrev pub NotOpened : List ℕ → List ℕ → OpenedWith → Type 0
+NotOpened shadow table o = o .given .status ≢ 0 → (o .given .session ≡ closed) × (o .shadow ≡ shadow) × (o .table ≡ table)
+
+pub open-refused : (shadow table : List ℕ) (R Q : ℕ) → NotOpened shadow table (open-with shadow table R Q)
+unfolding status in-numbers
+open-refused shadow table R Q =
+    by-open shadow table R Q (NotOpened shadow table)
+    (λ a refused. (refl, refl, refl)) (λ b refused. (refl, refl, refl)) (λ c refused. (refl, refl, refl)) (λ refused. absurd (refused refl))
 
 -- an opened session fits the buffers that it was opened with
 pub open-lent : (shadow table : List ℕ) (R Q : ℕ) → between least-granules most-granules (length shadow) ≡ true
@@ -341,3 +349,57 @@ unfolding taken run status in-numbers
 feed-empty session shadow table room e =
     feed-done session shadow table [] room e
     ∙ ap (λ r. record { given = record { session = session; status = 0; taken = 0; wrote = 0 }; shadow = shadow; table = table; room = r }) (put-nothing room 0)
+
+-- ---- both sides of every limit, computed
+
+pub shadow-limits :
+    (between least-granules most-granules 7 ≡ false)
+    × (between least-granules most-granules 8 ≡ true)
+    × (between least-granules most-granules 65_536 ≡ true)
+    × (between least-granules most-granules 65_537 ≡ false)
+shadow-limits = (refl, refl, refl, refl)
+
+pub redzone-limits :
+    (between least-redzone most-redzone 1 ≡ false)
+    × (between least-redzone most-redzone 2 ≡ true)
+    × (between least-redzone most-redzone 256 ≡ true)
+    × (between least-redzone most-redzone 257 ≡ false)
+redzone-limits = (refl, refl, refl, refl)
+
+pub table-limits :
+    (table-length 0 ≡ false)
+    × (table-length 3 ≡ false)
+    × (table-length 4 ≡ true)
+    × (table-length 5 ≡ false)
+    × (table-length 4_096 ≡ true)
+    × (table-length 4_097 ≡ false)
+    × (table-length 4_100 ≡ false)
+unfolding table-length
+table-limits = (refl, refl, refl, refl, refl, refl, refl)
+
+-- a session of S granules, the rows, R and an unfinished line of n zeros is within its limits
+pub session-within : ℕ → ℕ → ℕ → ℕ → Bool
+session-within S rows R n = within-limits (with-line (fresh S rows R 0) n no-bytes)
+
+pub session-limits :
+    (session-within 8 1 2 0 ≡ true)
+    × (session-within 65_536 1_024 256 19 ≡ true)
+    × (session-within 7 1 2 0 ≡ false)
+    × (session-within 65_537 1 2 0 ≡ false)
+    × (session-within 8 0 2 0 ≡ false)
+    × (session-within 8 1_025 2 0 ≡ false)
+    × (session-within 8 1 1 0 ≡ false)
+    × (session-within 8 1 257 0 ≡ false)
+    × (session-within 8 1 2 20 ≡ false)
+unfolding session-within within-limits unused-zero all-equal lowest
+session-limits = (refl, refl, refl, refl, refl, refl, refl, refl, refl)
+
+-- a place that is not used and not zero breaks 24, and one that is used does not
+pub unused-limits :
+    (unused-zero (set no-bytes 3 0x30) 3 ≡ false)
+    × (unused-zero (set no-bytes 3 0x30) 4 ≡ true)
+    × (unused-zero (set no-bytes 17 0x30) 17 ≡ false)
+    × (unused-zero (set no-bytes 17 0x30) 18 ≡ true)
+    × (unused-zero (set no-bytes 17 0x30) 19 ≡ true)
+unfolding unused-zero all-equal lowest
+unused-limits = (refl, refl, refl, refl, refl)

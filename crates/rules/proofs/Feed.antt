@@ -5,23 +5,21 @@ use native.Mathlib.Decide.{ℕ-discrete}
 use native.Mathlib.Omega.{arith}
 use mathlib.Core.Path.{_≡_, refl, sym, ap, ap₂, subst, _∙_}
 use mathlib.Core.Logic.{_≢_}
-use mathlib.Core.Bool.{Bool, true, false, true≢false}
-use mathlib.Core.Option.{Option, none, some}
+use mathlib.Core.Bool.{true, false}
 use mathlib.Core.List.{List, [], _∷_, _++_, append-assoc}
-use lib.ListN.{length, getD, set, take, drop, length-append}
-use lib.Dec.{eqb, ltb}
-use borrow.Author.Tests.{eqb-true, eqb-false, eq-eqb, ne-eqb, ltb-true, ltb-false, lt-ltb, le-ltb}
+use lib.ListN.{length, getD, set, take, length-append}
+use lib.Dec.{eqb}
+use borrow.Author.Tests.{ne-eqb, lt-ltb, le-ltb}
 use Rattle.rules.specs.declared.Session.{Session}
-use Rattle.rules.specs.declared.Answer.{Answer}
 use Rattle.rules.specs.declared.Frame.{Frame}
 use Rattle.rules.specs.declared.Frame.the-variants.{Grant, Release, Read, Write, Refused}
 use Rattle.rules.specs.Limits.{frame-digits, too-long, line-feed, answer-bytes}
 use Rattle.rules.specs.Answers.{in-numbers, status}
-use Rattle.rules.specs.Grant.{Acted, kept, counted, granules, place, empty-row, grant-at, grant}
+use Rattle.rules.specs.Grant.{Acted, grant-at, grant}
 use Rattle.rules.specs.Release.{release-row, release}
 use Rattle.rules.specs.Feed.{act, with-line, emptied, lengthened, State, Ran, act-line, finish, hold, step, after, run, run-nil, run-cons, taken, taken-nil, taken-byte, taken-answered, taken-stops}
-use Rattle.rules.proofs.Lowest.{if-true, if-false, by-test, by-found, by-order}
-use Rattle.rules.proofs.Grant.{SameLengths, grant-no-row, grant-no-place, grant-done, grant-lengths}
+use Rattle.rules.proofs.Lowest.{if-true, if-false, by-order}
+use Rattle.rules.proofs.Grant.{SameLengths, by-grant, grant-lengths}
 use Rattle.rules.proofs.Release.{by-release, release-lengths}
 use Rattle.rules.proofs.Frames.{length-answer}
 
@@ -34,18 +32,17 @@ RefusedKeeps shadow table acted = status (acted .answer) ≢ 0 → (acted .shado
 pub grant-refused : (R : ℕ) (shadow table : List ℕ) (s : ℕ) → RefusedKeeps shadow table (grant R shadow table s)
 unfolding grant-at status in-numbers
 grant-refused R shadow table s =
-    by-found (empty-row table)
-    (λ i row.
-    by-found (place shadow R (granules (counted s)))
-    (λ p e. subst (RefusedKeeps shadow table) (sym (grant-done R shadow table s i p row e)) (λ refused. absurd (refused refl)))
-    (λ e. subst (RefusedKeeps shadow table) (sym (grant-no-place R shadow table s i row e)) (λ refused. (refl, refl))))
-    (λ row. subst (RefusedKeeps shadow table) (sym (grant-no-row R shadow table s row)) (λ refused. (refl, refl)))
+    by-grant R shadow table s (RefusedKeeps shadow table)
+    (λ full refused. (refl, refl)) (λ i row nowhere refused. (refl, refl)) (λ i p row at refused. absurd (refused refl))
 
 pub release-refused : (R Q : ℕ) (shadow table : List ℕ) (a : ℕ) → RefusedKeeps shadow table (release R Q shadow table a)
 unfolding release-row status in-numbers
 release-refused R Q shadow table a =
-    by-release R Q shadow table a (RefusedKeeps shadow table) (λ refused. (refl, refl)) (λ refused. (refl, refl)) (λ refused. (refl, refl))
-    (λ i at refused. absurd (refused refl))
+    by-release R Q shadow table a (RefusedKeeps shadow table)
+    (λ e refused. (refl, refl))
+    (λ above no-live no-quarantined refused. (refl, refl))
+    (λ above no-live i e refused. (refl, refl))
+    (λ above i e refused. absurd (refused refl))
 
 -- whatever a line asks: refused, it changes neither
 pub act-refused : (session : Session) (shadow table : List ℕ) (frame : Frame) → RefusedKeeps shadow table (act session shadow table frame)

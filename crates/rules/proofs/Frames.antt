@@ -3,22 +3,21 @@
 use Prim.Native.Nat.{ℕ, zero, suc, _+_, _-_, _*_, _/_, _%_, _^_, _≤_, _<_, zero-le}
 use native.Mathlib.Nat.{le-of-eq, add-assoc, add-mul, mul-comm, mul-assoc, pow-succ', one-le-pow, mod-one, mod-lt, mod-eq-of-lt}
 use native.Mathlib.Omega.{arith}
-use mathlib.Core.Path.{_≡_, refl, sym, ap, ap₂, subst, _∙_}
+use mathlib.Core.Path.{_≡_, refl, sym, ap, _∙_}
 use mathlib.Core.Logic.{_≢_}
-use mathlib.Core.Bool.{Bool, true, false, true≢false, and-eq-true-iff}
-use mathlib.Core.Option.{Option, none, some, Option·none-ne-some, Option·some-injective}
+use mathlib.Core.Bool.{true, false, and-eq-true-iff}
+use mathlib.Core.Option.{none, some, Option·none-ne-some, Option·some-injective}
 use mathlib.Core.List.{List, [], _∷_, _++_}
 use lib.ListN.{length, getD, take, drop, length-append, length-drop}
 use lib.Seq.{take-at, drop-at, take-all, drop-drop, getD-take, getD-drop, length-take-le}
-use lib.Dec.{eqb, leb, ltb}
+use lib.Dec.{leb}
 use lib.Arith.{mod-mul}
-use borrow.Author.Tests.{leb-true, leb-false, le-leb, lt-leb, eq-eqb, ne-eqb, lt-ltb, le-ltb}
+use borrow.Author.Tests.{leb-true, le-leb, lt-leb, ne-eqb, lt-ltb, le-ltb}
 use Rattle.rules.specs.declared.Answer.{Answer}
-use Rattle.rules.specs.declared.Answer.the-variants.{Done, BadLine, BadKind, NotZero}
+use Rattle.rules.specs.declared.Answer.the-variants.{BadLine, BadKind, NotZero}
 use Rattle.rules.specs.declared.Frame.{Frame}
 use Rattle.rules.specs.declared.Frame.the-variants.{Grant, Release, Read, Write, Refused}
 use Rattle.rules.specs.Limits.{between, frame-digits, line-feed, answer-bytes, kind-grant, kind-release, kind-read, kind-write}
-use Rattle.rules.specs.Answers.{in-numbers}
 use Rattle.rules.specs.Frames.{hex-digit, number-on, number-nil, number-cons, number-stop, number, with-zero, frame, frame-of-digits, frame-of-line, digit, digits, digits-zero, digits-suc, answer-line}
 use Rattle.rules.proofs.Lowest.{if-true, if-false, by-test, by-found, by-order}
 

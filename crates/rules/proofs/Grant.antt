@@ -5,20 +5,18 @@ use native.Mathlib.Omega.{arith}
 use mathlib.Core.Path.{_≡_, refl, sym, ap, subst, _∙_}
 use mathlib.Core.Logic.{_≢_}
 use mathlib.Core.Bool.{true, true≢false}
-use mathlib.Core.Option.{Option, none, some, Option·none-ne-some}
-use mathlib.Core.List.{List, [], _∷_, _++_}
+use mathlib.Core.Option.{none, some}
+use mathlib.Core.List.{List, _++_}
 use lib.ListN.{length, getD, replicate, length-append, length-replicate, getD-replicate, List·getD-append}
 use lib.Seq.{getD-append-add}
 use borrow.Author.Tests.{eqb-true, eq-eqb}
-use Rattle.rules.specs.declared.Answer.{Answer}
-use Rattle.rules.specs.declared.Answer.the-variants.{Done, NoRow, NoPlace}
+use Rattle.rules.specs.declared.Answer.the-variants.{NoRow, NoPlace}
 use Rattle.rules.specs.Limits.{granule, most-granules, redzone-byte, row-numbers, empty, live}
-use Rattle.rules.specs.Put.{put}
-use Rattle.rules.specs.Table.{rows, column, state, is-empty, put-row}
+use Rattle.rules.specs.Table.{rows, column, state, is-empty}
 use Rattle.rules.specs.Grant.{Acted, kept, counted, granules, fits, place, last-granule, granted, empty-row, grant-at, grant}
 use Rattle.rules.proofs.Lowest.{by-found, Lowest, lowest-some, lowest-none, below-all, AllEqual, all-equal-true, all-equal-is}
 use Rattle.rules.proofs.Put.{length-put}
-use Rattle.rules.proofs.Table.{length-put-row, column-put-row, column-put-row-other}
+use Rattle.rules.proofs.Table.{length-put-row, column-put-row-other}
 
 -- ---- sizes
 
@@ -183,12 +181,23 @@ pub grant-done : (R : ℕ) (shadow table : List ℕ) (s i p : ℕ) → empty-row
 unfolding grant
 grant-done R shadow table s i p row e = rw (row, grant) (rw (e))
 
+-- by what a grant finds
+pub by-grant {ℓ} : (R : ℕ) (shadow table : List ℕ) (s : ℕ) (P : Acted → Type ℓ)
+    → (empty-row table ≡ none → P (kept NoRow shadow table))
+    → ((i : ℕ) → empty-row table ≡ some i → place shadow R (granules (counted s)) ≡ none → P (kept NoPlace shadow table))
+    → ((i p : ℕ) → empty-row table ≡ some i → place shadow R (granules (counted s)) ≡ some p → P (grant-at shadow table (counted s) i p))
+    → P (grant R shadow table s)
+by-grant R shadow table s P no-row no-place done =
+    by-found (empty-row table)
+    (λ i row.
+    by-found (place shadow R (granules (counted s)))
+    (λ p at. subst P (sym (grant-done R shadow table s i p row at)) (done i p row at))
+    (λ nowhere. subst P (sym (grant-no-place R shadow table s i row nowhere)) (no-place i row nowhere)))
+    (λ full. subst P (sym (grant-no-row R shadow table s full)) (no-row full))
+
 -- a place for a block leaves its granules inside the shadow
 pub place-inside : (R : ℕ) (shadow : List ℕ) (s p : ℕ) → place shadow R (granules s) ≡ some p → p + length (granted s) ≤ length shadow
-place-inside R shadow s p e =
-    let f : Fits shadow R (granules s) p = place-some shadow R (granules s) p e .fits in
-    let high : p + granules s + R ≤ length shadow = f .high in
-    omega (arith, length-granted s)
+place-inside R shadow s p e = omega (arith, place-some shadow R (granules s) p e .fits .high, length-granted s)
 
 -- lengths are kept
 abbrev pub SameLengths : List ℕ → List ℕ → Acted → Type 0
@@ -197,29 +206,19 @@ SameLengths shadow table acted = (length (acted .shadow) ≡ length shadow) × (
 pub grant-lengths : (R : ℕ) (shadow table : List ℕ) (s : ℕ) → SameLengths shadow table (grant R shadow table s)
 unfolding grant-at
 grant-lengths R shadow table s =
-    by-found (empty-row table)
-    (λ i row.
-    by-found (place shadow R (granules (counted s)))
-    (λ p e.
-    subst (SameLengths shadow table) (sym (grant-done R shadow table s i p row e)) (
-      length-put shadow p (granted (counted s)) (place-inside R shadow (counted s) p e),
+    by-grant R shadow table s (SameLengths shadow table) (λ full. (refl, refl)) (λ i row nowhere. (refl, refl))
+    (λ i p row at. (
+      length-put shadow p (granted (counted s)) (place-inside R shadow (counted s) p at),
       length-put-row table i p (counted s) live 0 (below-all (empty-row-some table i row)),
     ))
-    (λ e. subst (SameLengths shadow table) (sym (grant-no-place R shadow table s i row e)) (refl, refl)))
-    (λ row. subst (SameLengths shadow table) (sym (grant-no-row R shadow table s row)) (refl, refl))
 
 -- a grant never evicts: a row that is not empty stands as it did
 pub grant-keeps : (R : ℕ) (shadow table : List ℕ) (s k j : ℕ) → k < row-numbers → state table j ≢ empty
     → column k (grant R shadow table s .table) j ≡ column k table j
 unfolding grant-at
 grant-keeps R shadow table s k j in-row held =
-    by-found (empty-row table)
-    (λ i row.
+    by-grant R shadow table s (λ acted. column k (acted .table) j ≡ column k table j) (λ full. refl) (λ i row nowhere. refl)
+    (λ i p row at.
     let l : Lowest (is-empty table) (rows table) 0 i = empty-row-some table i row in
-    by-found (place shadow R (granules (counted s)))
-    (λ p e.
-    ap (λ acted. column k (acted .table) j) (grant-done R shadow table s i p row e)
-    ∙ column-put-row-other table i p (counted s) live 0 (below-all l) k j in-row
+    column-put-row-other table i p (counted s) live 0 (below-all l) k j in-row
     (λ same. held (ap (state table) same ∙ eqb-true (state table i) empty (l .passes))))
-    (λ e. ap (λ acted. column k (acted .table) j) (grant-no-place R shadow table s i row e)))
-    (λ row. ap (λ acted. column k (acted .table) j) (grant-no-row R shadow table s row))

@@ -1,12 +1,15 @@
+-- The laws of the definitions, a file for each file of `specs/`, and two that go across them.
 pub mod Lowest
 pub mod Put
 pub mod Table
 pub mod Shadow
 pub mod Grant
 pub mod Release
-pub mod Maps
 pub mod Frames
 pub mod Feed
 pub mod Calls
+pub mod Maps
+-- each refusal only where its row of the table says
 pub mod Refusals
+-- values 08 to 7f are never written
 pub mod Written

@@ -1,6 +1,6 @@
 -- The laws of `lowest` and `total`: what is found is the lowest that passes, none is found exactly where none passes, and a sum
 -- changes by what one of its numbers changes by. Assumes nothing.
-use Prim.Native.Nat.{ℕ, zero, suc, _+_, _≤_, _<_, zero-le}
+use Prim.Native.Nat.{ℕ, zero, suc, _+_, _≤_, _<_}
 use native.Mathlib.Nat.{eq-or-lt-of-le, not-suc-le-zero}
 use native.Mathlib.Decide.{decLt}
 use native.Mathlib.Omega.{arith}

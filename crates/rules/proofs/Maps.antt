@@ -6,7 +6,6 @@ use mathlib.Core.Path.{_≡_, refl, ap, _∙_}
 use borrow.Author.Tests.{le-leb, lt-leb}
 use Rattle.rules.specs.declared.Region.{Region}
 use Rattle.rules.specs.declared.Region.the-variants.{Nowhere, LowMem, LowShadow, ShadowGap, HighShadow, HighMem}
-use Rattle.rules.specs.declared.Mapped.{Mapped}
 use Rattle.rules.specs.Limits.{granule}
 use Rattle.rules.specs.Answers.{status, in-numbers}
 use Rattle.rules.specs.Maps.{Map, map32, map64, shadow-address, region, region-number, map-answer, map-shadow, map-call}

@@ -1,101 +1,73 @@
 -- When the watcher says no, and only when: each number of the table the other way round. That a number is given where its row says
 -- so is among the laws of its section; here, that it is given nowhere else. Assumes nothing.
-use Prim.Native.Nat.{ℕ, _+_, _*_, _≤_, _<_}
+use Prim.Native.Nat.{ℕ, _≤_, _<_}
 use native.Mathlib.Decide.{ℕ-discrete}
 use native.Mathlib.Omega.{arith}
 use mathlib.Core.Path.{_≡_, refl, sym, ap, subst, _∙_}
 use mathlib.Core.Logic.{_≢_}
-use mathlib.Core.Bool.{Bool, true, false}
+use mathlib.Core.Bool.{false}
 use mathlib.Core.Option.{none, some, Option·none-ne-some}
 use mathlib.Core.List.{List}
 use lib.ListN.{length}
-use borrow.Author.Tests.{le-leb}
 use Rattle.rules.specs.declared.Session.{Session}
-use Rattle.rules.specs.declared.Answer.{Answer}
-use Rattle.rules.specs.declared.Answer.the-variants.{Done, BadLine, BadKind, NotZero, NoRow, NoPlace, NotHeld, Released, NotGood, BadSession}
-use Rattle.rules.specs.declared.Verdict.the-variants.{Good, Bad}
+use Rattle.rules.specs.declared.Answer.the-variants.{Done, BadKind, NotZero, NotGood}
 use Rattle.rules.specs.declared.Frame.{Frame}
 use Rattle.rules.specs.declared.Frame.the-variants.{Grant, Release, Read, Write, Refused}
 use Rattle.rules.specs.declared.Region.{Region}
 use Rattle.rules.specs.Limits.{between, least-granules, most-granules, least-redzone, most-redzone, kind-grant, kind-release, kind-read, kind-write, live, quarantined}
 use Rattle.rules.specs.Answers.{in-numbers, status}
-use Rattle.rules.specs.Shadow.{kind, first-bad, judge}
-use Rattle.rules.specs.Grant.{Acted, counted, granules, place, empty-row, grant-at, grant}
+use Rattle.rules.specs.Shadow.{kind, first-bad}
+use Rattle.rules.specs.Grant.{counted, granules, place, empty-row, grant-at, grant}
 use Rattle.rules.specs.Release.{row-at, release-row, release}
 use Rattle.rules.specs.Frames.{with-zero, frame}
 use Rattle.rules.specs.Feed.{of-verdict, access, act}
 use Rattle.rules.specs.Calls.{table-length, open-with, within-limits, fits-lent, grant-call, release-call, access-call, unfinished-call, feed}
-use Rattle.rules.specs.Maps.{Map, region, region-number, map-answer, map-call}
+use Rattle.rules.specs.Maps.{Map, region, map-answer, map-call}
 use Rattle.rules.proofs.Lowest.{by-test, by-found, by-order}
 use Rattle.rules.proofs.Shadow.{FirstBad, first-bad-some, verdict-none, verdict-some}
-use Rattle.rules.proofs.Grant.{grant-no-row, grant-no-place, grant-done}
-use Rattle.rules.proofs.Release.{release-nothing, release-done, release-twice, release-foreign}
+use Rattle.rules.proofs.Grant.{by-grant}
+use Rattle.rules.proofs.Release.{by-release}
 use Rattle.rules.proofs.Frames.{frame-grant, frame-release, frame-read, frame-write, frame-other, with-zero-is, with-zero-not}
-use Rattle.rules.proofs.Calls.{open-bad-shadow, open-bad-redzone, open-bad-table, open-done, grant-as-frame, release-as-frame, access-as-frame, unfinished-done, feed-done}
+use Rattle.rules.proofs.Calls.{by-open, grant-as-frame, release-as-frame, access-as-frame, unfinished-done, feed-done}
 use Rattle.rules.proofs.Maps.{Published, in-low-mem, in-low-shadow, in-gap, in-high-shadow, in-high-mem, beyond, map-call-at}
 
 -- ---- grants: 05 and 06
 
--- what a grant answers, by what it finds
-answer-grant : (R : ℕ) (shadow table : List ℕ) (s : ℕ) (P : Answer → Type 0)
-    → (empty-row table ≡ none → P NoRow)
-    → (place shadow R (granules (counted s)) ≡ none → (i : ℕ) → empty-row table ≡ some i → P NoPlace)
-    → ((p : ℕ) → P (Done (8 * p))) → P (grant R shadow table s .answer)
-unfolding grant-at
-answer-grant R shadow table s P no-row no-place done =
-    by-found (empty-row table)
-    (λ i row.
-    by-found (place shadow R (granules (counted s)))
-    (λ p e. subst (λ a. P (a .answer)) (sym (grant-done R shadow table s i p row e)) (done p))
-    (λ e. subst (λ a. P (a .answer)) (sym (grant-no-place R shadow table s i row e)) (no-place e i row)))
-    (λ row. subst (λ a. P (a .answer)) (sym (grant-no-row R shadow table s row)) (no-row row))
-
 pub only-05 : (R : ℕ) (shadow table : List ℕ) (s : ℕ) → status (grant R shadow table s .answer) ≡ 5 → empty-row table ≡ none
-unfolding status in-numbers
+unfolding grant-at status in-numbers
 only-05 R shadow table s =
-    answer-grant R shadow table s (λ a. status a ≡ 5 → empty-row table ≡ none)
-    (λ row e. row) (λ nowhere i row e. absurd (omega arith)) (λ p e. absurd (omega arith))
+    by-grant R shadow table s (λ acted. status (acted .answer) ≡ 5 → empty-row table ≡ none)
+    (λ full e. full) (λ i row nowhere e. absurd (omega arith)) (λ i p row at e. absurd (omega arith))
 
 pub only-06 : (R : ℕ) (shadow table : List ℕ) (s : ℕ) → status (grant R shadow table s .answer) ≡ 6 → place shadow R (granules (counted s)) ≡ none
-unfolding status in-numbers
+unfolding grant-at status in-numbers
 only-06 R shadow table s =
-    answer-grant R shadow table s (λ a. status a ≡ 6 → place shadow R (granules (counted s)) ≡ none)
-    (λ row e. absurd (omega arith)) (λ nowhere i row e. nowhere) (λ p e. absurd (omega arith))
+    by-grant R shadow table s (λ acted. status (acted .answer) ≡ 6 → place shadow R (granules (counted s)) ≡ none)
+    (λ full e. absurd (omega arith)) (λ i row nowhere e. nowhere) (λ i p row at e. absurd (omega arith))
 
 -- ---- releases: 07 and 08
 
-answer-release : (R Q : ℕ) (shadow table : List ℕ) (a : ℕ) (P : Answer → Type 0)
-    → ((n : ℕ) → P (Done n))
-    → (a ≢ 0 → row-at live table a ≡ none → row-at quarantined table a ≡ none → P NotHeld)
-    → (a ≢ 0 → row-at live table a ≡ none → (i : ℕ) → row-at quarantined table a ≡ some i → P Released)
-    → P (release R Q shadow table a .answer)
-unfolding release-row
-answer-release R Q shadow table a P done foreign twice =
-    elim (ℕ-discrete a 0) [
-      | yes e ↦ subst (λ b. P (release R Q shadow table b .answer)) (sym e) (subst (λ r. P (r .answer)) (sym (release-nothing R Q shadow table)) (done 0))
-      | no above ↦
-          by-found (row-at live table a)
-          (λ i e. subst (λ r. P (r .answer)) (sym (release-done R Q shadow table a i above e)) (done _))
-          (λ e.
-          by-found (row-at quarantined table a)
-          (λ i f. subst (λ r. P (r .answer)) (sym (release-twice R Q shadow table a i above e f)) (twice above e i f))
-          (λ f. subst (λ r. P (r .answer)) (sym (release-foreign R Q shadow table a above e f)) (foreign above e f)))
-    ]
-
 pub only-07 : (R Q : ℕ) (shadow table : List ℕ) (a : ℕ) → status (release R Q shadow table a .answer) ≡ 7
     → (a ≢ 0) × (row-at live table a ≡ none) × (row-at quarantined table a ≡ none)
-unfolding status in-numbers
+unfolding release-row status in-numbers
 only-07 R Q shadow table a =
-    answer-release R Q shadow table a (λ r. status r ≡ 7 → (a ≢ 0) × (row-at live table a ≡ none) × (row-at quarantined table a ≡ none))
-    (λ n e. absurd (omega arith)) (λ above no-live no-quarantined e. (above, no-live, no-quarantined)) (λ above no-live i f e. absurd (omega arith))
+    by-release R Q shadow table a
+    (λ acted. status (acted .answer) ≡ 7 → (a ≢ 0) × (row-at live table a ≡ none) × (row-at quarantined table a ≡ none))
+    (λ e f. absurd (omega arith))
+    (λ above no-live no-quarantined f. (above, no-live, no-quarantined))
+    (λ above no-live i e f. absurd (omega arith))
+    (λ above i e f. absurd (omega arith))
 
 pub only-08 : (R Q : ℕ) (shadow table : List ℕ) (a : ℕ) → status (release R Q shadow table a .answer) ≡ 8
     → (a ≢ 0) × (row-at live table a ≡ none) × (row-at quarantined table a ≢ none)
-unfolding status in-numbers
+unfolding release-row status in-numbers
 only-08 R Q shadow table a =
-    answer-release R Q shadow table a (λ r. status r ≡ 8 → (a ≢ 0) × (row-at live table a ≡ none) × (row-at quarantined table a ≢ none))
-    (λ n e. absurd (omega arith)) (λ above no-live no-quarantined e. absurd (omega arith))
-    (λ above no-live i f e. (above, no-live, λ g. Option·none-ne-some i (sym g ∙ f)))
+    by-release R Q shadow table a
+    (λ acted. status (acted .answer) ≡ 8 → (a ≢ 0) × (row-at live table a ≡ none) × (row-at quarantined table a ≢ none))
+    (λ e f. absurd (omega arith))
+    (λ above no-live no-quarantined f. absurd (omega arith))
+    (λ above no-live i e f. (above, no-live, λ g. Option·none-ne-some i (sym g ∙ e)))
+    (λ above i e f. absurd (omega arith))
 
 -- ---- accesses: 09, with the first bad byte and its kind
 
@@ -178,61 +150,50 @@ only-03 kind A B =
 
 -- ---- openings: 21 to 23
 
-answer-open : (shadow table : List ℕ) (R Q : ℕ) (P : ℕ → Type 0)
-    → (between least-granules most-granules (length shadow) ≡ false → P 21)
-    → (between least-redzone most-redzone R ≡ false → P 22)
-    → (table-length (length table) ≡ false → P 23)
-    → P 0 → P (open-with shadow table R Q .given .status)
-unfolding status in-numbers
-answer-open shadow table R Q P bad-shadow bad-redzone bad-table done =
-    by-test (between least-granules most-granules (length shadow))
-    (λ a.
-    by-test (between least-redzone most-redzone R)
-    (λ b.
-    by-test (table-length (length table))
-    (λ c. subst (λ o. P (o .given .status)) (sym (open-done shadow table R Q a b c)) done)
-    (λ c. subst (λ o. P (o .given .status)) (sym (open-bad-table shadow table R Q a b c)) (bad-table c)))
-    (λ b. subst (λ o. P (o .given .status)) (sym (open-bad-redzone shadow table R Q a b)) (bad-redzone b)))
-    (λ a. subst (λ o. P (o .given .status)) (sym (open-bad-shadow shadow table R Q a)) (bad-shadow a))
-
 pub only-21 : (shadow table : List ℕ) (R Q : ℕ) → open-with shadow table R Q .given .status ≡ 21 → between least-granules most-granules (length shadow) ≡ false
+unfolding status in-numbers
 only-21 shadow table R Q =
-    answer-open shadow table R Q (λ n. n ≡ 21 → between least-granules most-granules (length shadow) ≡ false)
+    by-open shadow table R Q (λ o. o .given .status ≡ 21 → between least-granules most-granules (length shadow) ≡ false)
     (λ a e. a) (λ b e. absurd (omega arith)) (λ c e. absurd (omega arith)) (λ e. absurd (omega arith))
 
 pub only-22 : (shadow table : List ℕ) (R Q : ℕ) → open-with shadow table R Q .given .status ≡ 22 → between least-redzone most-redzone R ≡ false
+unfolding status in-numbers
 only-22 shadow table R Q =
-    answer-open shadow table R Q (λ n. n ≡ 22 → between least-redzone most-redzone R ≡ false)
+    by-open shadow table R Q (λ o. o .given .status ≡ 22 → between least-redzone most-redzone R ≡ false)
     (λ a e. absurd (omega arith)) (λ b e. b) (λ c e. absurd (omega arith)) (λ e. absurd (omega arith))
 
 pub only-23 : (shadow table : List ℕ) (R Q : ℕ) → open-with shadow table R Q .given .status ≡ 23 → table-length (length table) ≡ false
+unfolding status in-numbers
 only-23 shadow table R Q =
-    answer-open shadow table R Q (λ n. n ≡ 23 → table-length (length table) ≡ false)
+    by-open shadow table R Q (λ o. o .given .status ≡ 23 → table-length (length table) ≡ false)
     (λ a e. absurd (omega arith)) (λ b e. absurd (omega arith)) (λ c e. c) (λ e. absurd (omega arith))
 
 -- ---- later calls: 24
 
 pub only-24-grant : (session : Session) (shadow table : List ℕ) (s : ℕ) → status (grant-call session shadow table s .answer) ≡ 24
     → fits-lent session shadow table ≡ false
-unfolding act status in-numbers
+unfolding act grant-at status in-numbers
 only-24-grant session shadow table s e =
     by-test (fits-lent session shadow table)
     (λ fits.
     absurd
-    (answer-grant (session .redzone) shadow table s (λ a. status a ≢ 24)
-    (λ row f. absurd (omega arith)) (λ nowhere i row f. absurd (omega arith)) (λ p f. absurd (omega arith))
+    (by-grant (session .redzone) shadow table s (λ acted. status (acted .answer) ≢ 24)
+    (λ full f. absurd (omega arith)) (λ i row nowhere f. absurd (omega arith)) (λ i p row at f. absurd (omega arith))
     (ap (λ a. status (a .answer)) (sym (grant-as-frame session shadow table s fits)) ∙ e)))
     (λ unfit. unfit)
 
 pub only-24-release : (session : Session) (shadow table : List ℕ) (a : ℕ) → status (release-call session shadow table a .answer) ≡ 24
     → fits-lent session shadow table ≡ false
-unfolding act status in-numbers
+unfolding act release-row status in-numbers
 only-24-release session shadow table a e =
     by-test (fits-lent session shadow table)
     (λ fits.
     absurd
-    (answer-release (session .redzone) (session .quarantine) shadow table a (λ r. status r ≢ 24)
-    (λ n f. absurd (omega arith)) (λ above no-live no-quarantined f. absurd (omega arith)) (λ above no-live i g f. absurd (omega arith))
+    (by-release (session .redzone) (session .quarantine) shadow table a (λ acted. status (acted .answer) ≢ 24)
+    (λ g f. absurd (omega arith))
+    (λ above no-live no-quarantined f. absurd (omega arith))
+    (λ above no-live i g f. absurd (omega arith))
+    (λ above i g f. absurd (omega arith))
     (ap (λ r. status (r .answer)) (sym (release-as-frame session shadow table a fits)) ∙ e)))
     (λ unfit. unfit)
 

@@ -6,19 +6,19 @@ use native.Mathlib.Decide.{ℕ-discrete}
 use native.Mathlib.Omega.{arith}
 use mathlib.Core.Path.{_≡_, refl, sym, ap, ap₂, subst, _∙_}
 use mathlib.Core.Logic.{_≢_}
-use mathlib.Core.Bool.{Bool, true, false, _&&_, true≢false, and-eq-true-iff}
-use mathlib.Core.Option.{Option, none, some, Option·none-ne-some, Option·some-injective}
+use mathlib.Core.Bool.{true, false, _&&_, true≢false, and-eq-true-iff}
+use mathlib.Core.Option.{none, some, Option·none-ne-some, Option·some-injective}
 use mathlib.Core.List.{List, [], _∷_}
 use lib.ListN.{length, getD}
-use lib.Dec.{eqb, ltb}
-use borrow.Author.Tests.{eqb-true, eq-eqb, ne-eqb, ltb-true, ltb-false, lt-ltb, le-ltb}
+use lib.Dec.{eqb}
+use borrow.Author.Tests.{eqb-true, eq-eqb, ne-eqb, lt-ltb, le-ltb}
 use Rattle.rules.specs.declared.Answer.the-variants.{Done, NotHeld, Released}
 use Rattle.rules.specs.Limits.{granule, redzone-byte, released-byte, row-numbers, empty, live, quarantined}
 use Rattle.rules.specs.Lowest.{total}
-use Rattle.rules.specs.Table.{rows, column, start, size, state, turn, is-quarantined, put-row, lessened}
+use Rattle.rules.specs.Table.{rows, column, start, size, state, turn, is-quarantined, put-row}
 use Rattle.rules.specs.Grant.{Acted, kept, granules}
-use Rattle.rules.specs.Release.{starts-at, row-at, if-quarantined, in-quarantine, weight, weights, older, oldest, oldest-zero, oldest-here, oldest-other, Pool, paint-row, evict-row, evict-oldest, Settled, and-one-more, settle-in, settle, quarantine-row, release-row, release}
-use Rattle.rules.proofs.Lowest.{if-true, if-false, by-test, by-found, by-order, Lowest, lowest-some, lowest-none, below-all, total-same, total-change, le-total, total-above, total-most}
+use Rattle.rules.specs.Release.{starts-at, row-at, if-quarantined, in-quarantine, weight, weights, older, oldest, oldest-zero, oldest-here, oldest-other, Pool, paint-row, evict-row, evict-oldest, and-one-more, settle-in, settle, quarantine-row, release-row, release}
+use Rattle.rules.proofs.Lowest.{if-true, if-false, by-test, by-found, by-order, Lowest, lowest-some, lowest-none, below-all, total-change, le-total, total-above, total-most}
 use Rattle.rules.proofs.Put.{length-fill, fill-in, fill-before, fill-after}
 use Rattle.rules.proofs.Table.{rows-same, length-put-row, column-put-row, column-put-row-other, length-lessened, column-lessened, turn-lessened}
 use Rattle.rules.proofs.Grant.{SameLengths}
@@ -414,19 +414,21 @@ release-foreign R Q shadow table a above e f = if-false _ _ (ne-eqb a 0 above) �
 
 -- by what a release finds
 pub by-release {ℓ} : (R Q : ℕ) (shadow table : List ℕ) (a : ℕ) (P : Acted → Type ℓ)
-    → P (kept (Done 0) shadow table) → P (kept Released shadow table) → P (kept NotHeld shadow table)
-    → ((i : ℕ) → StartsAt live table a i → P (release-row R Q (record { shadow = shadow; table = table }) i))
+    → (a ≡ 0 → P (kept (Done 0) shadow table))
+    → (a ≢ 0 → row-at live table a ≡ none → row-at quarantined table a ≡ none → P (kept NotHeld shadow table))
+    → (a ≢ 0 → row-at live table a ≡ none → (i : ℕ) → row-at quarantined table a ≡ some i → P (kept Released shadow table))
+    → (a ≢ 0 → (i : ℕ) → row-at live table a ≡ some i → P (release-row R Q (record { shadow = shadow; table = table }) i))
     → P (release R Q shadow table a)
-by-release R Q shadow table a P nothing twice foreign done =
+by-release R Q shadow table a P nothing foreign twice done =
     elim (ℕ-discrete a 0) [
-      | yes e ↦ subst (λ b. P (release R Q shadow table b)) (sym e) (subst P (sym (release-nothing R Q shadow table)) nothing)
+      | yes e ↦ subst (λ b. P (release R Q shadow table b)) (sym e) (subst P (sym (release-nothing R Q shadow table)) (nothing e))
       | no above ↦
           by-found (row-at live table a)
-          (λ i e. subst P (sym (release-done R Q shadow table a i above e)) (done i (row-at-some live table a i e)))
+          (λ i e. subst P (sym (release-done R Q shadow table a i above e)) (done above i e))
           (λ e.
           by-found (row-at quarantined table a)
-          (λ i f. subst P (sym (release-twice R Q shadow table a i above e f)) twice)
-          (λ f. subst P (sym (release-foreign R Q shadow table a above e f)) foreign))
+          (λ i f. subst P (sym (release-twice R Q shadow table a i above e f)) (twice above e i f))
+          (λ f. subst P (sym (release-foreign R Q shadow table a above e f)) (foreign above e f)))
     ]
 
 SamePool : List ℕ → List ℕ → Pool → Type 0
@@ -436,10 +438,11 @@ SamePool shadow table pool = (length (pool .shadow) ≡ length shadow) × (lengt
 pub release-lengths : (R Q : ℕ) (shadow table : List ℕ) (a : ℕ) → SameLengths shadow table (release R Q shadow table a)
 unfolding SamePool release-row
 release-lengths R Q shadow table a =
-    by-release R Q shadow table a (SameLengths shadow table) (refl, refl) (refl, refl) (refl, refl)
-    (λ i at.
+    by-release R Q shadow table a (SameLengths shadow table)
+    (λ e. (refl, refl)) (λ above no-live no-quarantined. (refl, refl)) (λ above no-live i e. (refl, refl))
+    (λ above i e.
     let pool : Pool = record { shadow = shadow; table = table } in
     settled-has R Q (SamePool shadow table)
     (λ p j o same.
     (ap length (evict-row-shadow p j) ∙ paint-row-length p j redzone-byte ∙ same .0, evict-row-length p j (o .below) ∙ same .1))
-    (quarantine-row pool i) (quarantine-row-lengths pool i (at .below)))
+    (quarantine-row pool i) (quarantine-row-lengths pool i (row-at-some live table a i e .below)))

@@ -1,21 +1,20 @@
 -- The laws of the shadow byte and of the range rule. Assumes nothing.
-use Prim.Native.Nat.{ℕ, zero, suc, _+_, _-_, _*_, _/_, _%_, _^_, _≤_, _<_, zero-le}
+use Prim.Native.Nat.{ℕ, suc, _+_, _-_, _*_, _%_, _^_, _≤_, _<_, zero-le}
 use native.Mathlib.Omega.{arith}
 use mathlib.Core.Path.{_≡_, refl, sym, ap, subst, _∙_}
-use mathlib.Core.Logic.{_↔_, _≢_}
-use mathlib.Core.Bool.{Bool, true, false, not, _||_, true≢false, and-eq-true-iff}
-use mathlib.Core.Option.{Option, none, some}
+use mathlib.Core.Bool.{true, false, not, _||_, true≢false, and-eq-true-iff}
+use mathlib.Core.Option.{none, some}
 use mathlib.Core.List.{List}
-use lib.ListN.{length, getD}
+use lib.ListN.{length}
 use lib.Dec.{eqb, ltb}
-use lib.IntN.{ℤ, pos, negsuc}
+use lib.IntN.{pos, negsuc}
 use lib.Signed.{ltZ}
-use borrow.Author.Tests.{ltb-true, ltb-false, eqb-true, eqb-false, not-true, not-false, lt-ltb, le-ltb, ne-eqb}
+use borrow.Author.Tests.{ltb-true, not-true, not-false, lt-ltb, le-ltb, ne-eqb}
 use Rattle.rules.specs.declared.Verdict.{Verdict}
 use Rattle.rules.specs.declared.Verdict.the-variants.{Good, Bad}
 use Rattle.rules.specs.Limits.{granule, most-granules, outside}
 use Rattle.rules.specs.Shadow.{leading, signed, negative, inside, shadow-of, addressable, kind, first-bad, judge}
-use Rattle.rules.proofs.Lowest.{if-true, if-false, by-test, by-found, by-order, Lowest, lowest-some, lowest-none, lowest-is, lowest-no}
+use Rattle.rules.proofs.Lowest.{if-true, if-false, by-found, by-order, Lowest, lowest-some, lowest-none, lowest-is, lowest-no}
 
 -- ---- the byte
 

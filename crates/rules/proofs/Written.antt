@@ -1,22 +1,21 @@
 -- Values 08 to 7f are never written: a shadow whose bytes are 00 to 07, fa and fd stays one, whatever the text. Assumes nothing.
-use Prim.Native.Nat.{ℕ, _+_, _*_, _/_, _%_, _≤_, _<_}
+use Prim.Native.Nat.{ℕ, _/_, _<_}
 use native.Mathlib.Omega.{arith}
-use mathlib.Core.Path.{_≡_, refl, sym, ap, subst, _∙_}
+use mathlib.Core.Path.{_≡_, refl, sym, ap, subst}
 use mathlib.Core.Logic.{_⊎_, inl, inr}
 use mathlib.Core.List.{List}
-use lib.ListN.{length, getD, replicate, length-replicate, getD-replicate}
+use lib.ListN.{getD, replicate, length-replicate, getD-replicate}
 use Rattle.rules.specs.declared.Session.{Session}
 use Rattle.rules.specs.declared.Frame.{Frame}
 use Rattle.rules.specs.declared.Frame.the-variants.{Grant, Release, Read, Write, Refused}
-use Rattle.rules.specs.Limits.{granule, redzone-byte, released-byte, live}
-use Rattle.rules.specs.Put.{put}
+use Rattle.rules.specs.Limits.{granule, redzone-byte, released-byte}
 use Rattle.rules.specs.Table.{start, size}
-use Rattle.rules.specs.Grant.{Acted, counted, granules, place, granted, empty-row, grant-at, grant}
+use Rattle.rules.specs.Grant.{counted, granules, granted, grant-at, grant}
 use Rattle.rules.specs.Release.{Pool, paint-row, quarantine-row, release-row, release}
 use Rattle.rules.specs.Feed.{State, act, act-line, finish, hold, step, run}
-use Rattle.rules.proofs.Lowest.{by-found, by-order}
+use Rattle.rules.proofs.Lowest.{by-order}
 use Rattle.rules.proofs.Put.{Each, put-each, fill-each}
-use Rattle.rules.proofs.Grant.{place-inside, length-granted, granted-whole, granted-last, grant-no-row, grant-no-place, grant-done}
+use Rattle.rules.proofs.Grant.{place-inside, length-granted, granted-whole, granted-last, by-grant}
 use Rattle.rules.proofs.Release.{by-release, settled-has, evict-row-shadow}
 use Rattle.rules.proofs.Feed.{by-byte, run-has}
 
@@ -40,20 +39,16 @@ paint-written pool i v before of-v = fill-each Written (pool .shadow) (start (po
 grant-written : (R : ℕ) (shadow table : List ℕ) (s : ℕ) → Each Written shadow → Each Written (grant R shadow table s .shadow)
 unfolding grant-at
 grant-written R shadow table s before =
-    by-found (empty-row table)
-    (λ i row.
-    by-found (place shadow R (granules (counted s)))
-    (λ p e.
-    subst (λ a. Each Written (a .shadow)) (sym (grant-done R shadow table s i p row e))
-    (put-each Written shadow p (granted (counted s)) (place-inside R shadow (counted s) p e) before (granted-written (counted s))))
-    (λ e. subst (λ a. Each Written (a .shadow)) (sym (grant-no-place R shadow table s i row e)) before))
-    (λ row. subst (λ a. Each Written (a .shadow)) (sym (grant-no-row R shadow table s row)) before)
+    by-grant R shadow table s (λ acted. Each Written (acted .shadow)) (λ full. before) (λ i row nowhere. before)
+    (λ i p row at.
+    put-each Written shadow p (granted (counted s)) (place-inside R shadow (counted s) p at) before (granted-written (counted s)))
 
 release-written : (R Q : ℕ) (shadow table : List ℕ) (a : ℕ) → Each Written shadow → Each Written (release R Q shadow table a .shadow)
 unfolding release-row quarantine-row
 release-written R Q shadow table a before =
-    by-release R Q shadow table a (λ r. Each Written (r .shadow)) before before before
-    (λ i at.
+    by-release R Q shadow table a (λ acted. Each Written (acted .shadow))
+    (λ e. before) (λ above no-live no-quarantined. before) (λ above no-live i e. before)
+    (λ above i e.
     settled-has R Q (λ pool. Each Written (pool .shadow))
     (λ pool j o written. subst (Each Written) (sym (evict-row-shadow pool j)) (paint-written pool j redzone-byte written (inr (inl refl))))
     (quarantine-row (record { shadow = shadow; table = table }) i)

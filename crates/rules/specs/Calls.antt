@@ -1,7 +1,7 @@
 -- The calls: an opening, the session check behind 24, the direct calls, and a feed into a lent room.
-use Prim.Native.Nat.{ℕ, _+_, _-_, _*_, _/_, _%_}
+use Prim.Native.Nat.{ℕ, _-_, _*_, _/_, _%_}
 use mathlib.Core.Bool.{Bool, true, false, _&&_}
-use mathlib.Core.List.{List, []}
+use mathlib.Core.List.{List}
 use lib.ListN.{length, take, replicate}
 use lib.Dec.{eqb, leb}
 use Rattle.rules.specs.declared.Session.{Session}
@@ -15,7 +15,7 @@ use Rattle.rules.specs.Lowest.{all-equal}
 use Rattle.rules.specs.Put.{put}
 use Rattle.rules.specs.Grant.{Acted, kept, grant}
 use Rattle.rules.specs.Release.{release}
-use Rattle.rules.specs.Feed.{State, Ran, no-bytes, access, run, taken}
+use Rattle.rules.specs.Feed.{Ran, no-bytes, access, run, taken}
 
 -- ---- opening
 

@@ -1,13 +1,23 @@
+-- The paper as definitions, in the paper's order. Nothing else has to be believed; the laws are in `proofs/`.
+-- What the watcher holds: Limits, Table. Two tools that the rules share: Lowest, Put.
 pub mod Limits
 pub mod Lowest
 pub mod Put
 pub mod Table
+-- The shadow byte, and the range rule
 pub mod Shadow
+-- When the watcher says no: the table of answers
 pub mod Answers
+-- Grant, release, quarantine
 pub mod Grant
 pub mod Release
+-- Frames in, frames out
 pub mod Frames
+-- One byte, a text, and how far a piece is taken
 pub mod Feed
+-- Opening, the check behind 24, the direct calls, feed
 pub mod Calls
+-- The two published address maps
 pub mod Maps
+-- One night's trace, whole
 pub mod Night

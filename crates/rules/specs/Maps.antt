@@ -1,7 +1,7 @@
 -- The two published address maps.
 use Prim.Native.Nat.{ℕ, _+_, _/_}
-use mathlib.Core.Bool.{Bool, true, false}
-use lib.Dec.{leb, ltb}
+use mathlib.Core.Bool.{true, false}
+use lib.Dec.{leb}
 use Rattle.rules.specs.declared.Answer.{Answer}
 use Rattle.rules.specs.declared.Answer.the-variants.{Done, BeyondMap, InGap}
 use Rattle.rules.specs.declared.Region.{Region}

@@ -15,8 +15,8 @@ use Rattle.rules.specs.Answers.{in-numbers, status}
 use Rattle.rules.specs.Grant.{counted, granules, fits, place, last-granule, granted, empty-row, grant-at, grant}
 use Rattle.rules.specs.Release.{starts-at, row-at, if-quarantined, in-quarantine, weight, weights, older, oldest, paint-row, evict-row, evict-oldest, settle-in, settle, quarantine-row, release-row, release}
 use Rattle.rules.specs.Frames.{hex-digit, number-on, number, with-zero, frame, frame-of-digits, frame-of-line, digit, digits, answer-line}
-use Rattle.rules.specs.Feed.{State, Ran, of-verdict, access, act, emptied, lengthened, act-line, finish, hold, step, run, taken}
-use Rattle.rules.specs.Calls.{fresh, table-length, OpenedWith, open-with, unused-zero, within-limits, fits-lent, FedWith, feed}
+use Rattle.rules.specs.Feed.{State, Ran, with-line, of-verdict, access, act, emptied, lengthened, act-line, finish, hold, step, run, taken}
+use Rattle.rules.specs.Calls.{fresh, table-length, OpenedWith, open-with, unused-zero, within-limits, fits-lent, feed}
 
 -- a text's bytes
 unfoldable pub bytes : String → List ℕ
@@ -138,6 +138,41 @@ pub unaligned :
     run (opened 16 2 16 4) (text ("010000000800000000" ∷ "040000001600000004" ∷ [])) .report ≡ text ("000000000010" ∷ "09fa00000018" ∷ [])
 unfolding by-the-rules
 unaligned = refl
+
+-- ---- frames in
+
+-- digits of either case; a carriage return, a digit too few, one too many and an empty line are refused 01, then 02 and 03
+pub lines :
+    run state-after
+    (text
+    ("03FFFFFFFF00000000" ∷ "03000000100000001\r" ∷ "03000000100000001" ∷ "0300000010000000010" ∷ "" ∷ "050000000000000000" ∷ "020000001000000001" ∷ []))
+    ≡ record {
+      state = state-after;
+      report = text
+          ("000000000000" ∷ "010000000000" ∷ "010000000000" ∷ "010000000000" ∷ "010000000000" ∷ "020000000000" ∷ "030000000000" ∷ []);
+    }
+unfolding by-the-rules
+lines = refl
+
+-- an unfinished line is not acted on, though its 18 digits are there
+pub unfinished-18 :
+    run state-after (bytes "020000001000000000")
+    ≡ record {
+      state = record { session = with-line (fresh 16 4 2 16) 18 (bytes "020000001000000000"); shadow = shadow-after; table = table-after };
+      report = [];
+    }
+unfolding by-the-rules
+unfinished-18 = refl
+
+-- and of 19 bytes or more its first 18 are kept, and 19 stands for the length
+pub unfinished-21 :
+    run state-after (bytes "020000001000000000abc")
+    ≡ record {
+      state = record { session = with-line (fresh 16 4 2 16) 19 (bytes "020000001000000000"); shadow = shadow-after; table = table-after };
+      report = [];
+    }
+unfolding by-the-rules
+unfinished-21 = refl
 
 -- ---- scribbled buffers: the same rules apply to whatever is found
 

@@ -5,7 +5,6 @@ use mathlib.Core.Bool.{Bool, true, false, _&&_}
 use mathlib.Core.Option.{Option, none, some}
 use mathlib.Core.List.{List}
 use lib.Dec.{eqb, ltb}
-use Rattle.rules.specs.declared.Answer.{Answer}
 use Rattle.rules.specs.declared.Answer.the-variants.{Done, NotHeld, Released}
 use Rattle.rules.specs.Limits.{granule, redzone-byte, released-byte, empty, live, quarantined}
 use Rattle.rules.specs.Lowest.{lowest, total}
