@@ -4,7 +4,7 @@ use Prim.Native.Nat.{ℕ, _+_, _-_, _*_, _/_, _%_, _≤_, zero-le}
 use native.Mathlib.Omega.{arith}
 use mathlib.Core.Path.{_≡_, refl, sym, ap, subst, _∙_}
 use mathlib.Core.Logic.{_≢_}
-use mathlib.Core.Bool.{Bool, true, false, _&&_, and-eq-true-iff}
+use mathlib.Core.Bool.{Bool, true, false}
 use mathlib.Core.List.{List, []}
 use lib.ListN.{length, getD, set, take, replicate, length-replicate, getD-replicate}
 use lib.Seq.{getD-set-other}
@@ -19,9 +19,9 @@ use Rattle.rules.specs.Lowest.{lowest, all-equal}
 use Rattle.rules.specs.Grant.{kept}
 use Rattle.rules.specs.Feed.{State, Ran, no-bytes, with-line, emptied, lengthened, act, finish, hold, step, run, taken}
 use Rattle.rules.specs.Calls.{closed, fresh, table-length, OpenedWith, not-opened, open-with, unused-zero, within-limits, fits-lent, grant-call, release-call, access-call, unfinished-call, fed-with, feed}
-use Rattle.rules.proofs.Lowest.{if-true, if-false, by-test, by-order, AllEqual, all-equal-true, all-equal-is}
+use Rattle.rules.proofs.Tests.{between-is, between-true, both, by-order, by-test, if-false, if-true, join}
+use Rattle.rules.proofs.Lowest.{AllEqual, all-equal-true, all-equal-is}
 use Rattle.rules.proofs.Put.{length-put, put-after, put-nothing}
-use Rattle.rules.proofs.Frames.{between-true, between-is}
 use Rattle.rules.proofs.Feed.{SameNumbers, lengthened-short, lengthened-long, by-byte, step-numbers, step-lengths, run-has, run-report, taken-fits}
 
 -- ---- the check behind 24
@@ -40,18 +40,11 @@ pub record Lent (session : Session) (shadow table : List ℕ) : Type 0 where
   pub of-shadow : length shadow ≡ session .granules
   pub of-table : length table ≡ row-numbers * session .rows
 
--- of two tests joined, both or neither
-both : {a b : Bool} → (a && b) ≡ true → (a ≡ true) × (b ≡ true)
-both {a} {b} e = and-eq-true-iff a b .0 e
-
-join : {a b : Bool} → a ≡ true → b ≡ true → (a && b) ≡ true
-join {a} {b} e f = and-eq-true-iff a b .1 (e, f)
-
-unused-true : (line : List ℕ) (n : ℕ) → unused-zero line n ≡ true → AllEqual line 0 n frame-digits
+pub unused-true : (line : List ℕ) (n : ℕ) → unused-zero line n ≡ true → AllEqual line 0 n frame-digits
 unfolding unused-zero
 unused-true line n e k from below = all-equal-true line 0 n (frame-digits - n) e k from (omega arith)
 
-unused-is : (line : List ℕ) (n : ℕ) → AllEqual line 0 n frame-digits → unused-zero line n ≡ true
+pub unused-is : (line : List ℕ) (n : ℕ) → AllEqual line 0 n frame-digits → unused-zero line n ≡ true
 unfolding unused-zero
 unused-is line n zeros = all-equal-is line 0 n (frame-digits - n) (λ k from below. zeros k from (omega arith))
 

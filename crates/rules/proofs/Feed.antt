@@ -18,7 +18,7 @@ use Rattle.rules.specs.Answers.{in-numbers, status}
 use Rattle.rules.specs.Grant.{Acted, grant-at, grant}
 use Rattle.rules.specs.Release.{release-row, release}
 use Rattle.rules.specs.Feed.{act, with-line, emptied, lengthened, State, Ran, act-line, finish, hold, step, after, run, run-nil, run-cons, taken, taken-nil, taken-byte, taken-answered, taken-stops}
-use Rattle.rules.proofs.Lowest.{if-true, if-false, by-order}
+use Rattle.rules.proofs.Tests.{by-order, if-false, if-true}
 use Rattle.rules.proofs.Grant.{SameLengths, by-grant, grant-lengths}
 use Rattle.rules.proofs.Release.{by-release, release-lengths}
 use Rattle.rules.proofs.Frames.{length-answer}

@@ -5,40 +5,19 @@ use native.Mathlib.Nat.{le-of-eq, add-assoc, add-mul, mul-comm, mul-assoc, pow-s
 use native.Mathlib.Omega.{arith}
 use mathlib.Core.Path.{_≡_, refl, sym, ap, _∙_}
 use mathlib.Core.Logic.{_≢_}
-use mathlib.Core.Bool.{true, false, and-eq-true-iff}
 use mathlib.Core.Option.{none, some, Option·none-ne-some, Option·some-injective}
 use mathlib.Core.List.{List, [], _∷_, _++_}
 use lib.ListN.{length, getD, take, drop, length-append, length-drop}
 use lib.Seq.{take-at, drop-at, take-all, drop-drop, getD-take, getD-drop, length-take-le}
-use lib.Dec.{leb}
 use lib.Arith.{mod-mul}
-use borrow.Author.Tests.{leb-true, le-leb, lt-leb, ne-eqb, lt-ltb, le-ltb}
+use borrow.Author.Tests.{ne-eqb, lt-ltb, le-ltb}
 use Rattle.rules.specs.declared.Answer.{Answer}
 use Rattle.rules.specs.declared.Answer.the-variants.{BadLine, BadKind, NotZero}
 use Rattle.rules.specs.declared.Frame.{Frame}
 use Rattle.rules.specs.declared.Frame.the-variants.{Grant, Release, Read, Write, Refused}
 use Rattle.rules.specs.Limits.{between, frame-digits, line-feed, answer-bytes, kind-grant, kind-release, kind-read, kind-write}
 use Rattle.rules.specs.Frames.{hex-digit, number-on, number-nil, number-cons, number-stop, number, with-zero, frame, frame-of-digits, frame-of-line, digit, digits, digits-zero, digits-suc, answer-line}
-use Rattle.rules.proofs.Lowest.{if-true, if-false, by-test, by-found, by-order}
-
--- ---- limits, as a test
-
-pub between-true : (low high n : ℕ) → low ≤ n → n ≤ high → between low high n ≡ true
-between-true low high n from upto = and-eq-true-iff (leb low n) (leb n high) .1 (le-leb low n from, le-leb n high upto)
-
-pub between-low : (low high n : ℕ) → n < low → between low high n ≡ false
-between-low low high n below = rw (lt-leb low n below)
-
-pub between-high : (low high n : ℕ) → high < n → between low high n ≡ false
-between-high low high n above =
-    by-test (between low high n)
-    (λ e. absurd (omega (arith, leb-true n high (and-eq-true-iff (leb low n) (leb n high) .0 e .1))))
-    (λ e. e)
-
-pub between-is : (low high n : ℕ) → between low high n ≡ true → (low ≤ n) × (n ≤ high)
-between-is low high n e =
-    let both : (leb low n ≡ true) × (leb n high ≡ true) = and-eq-true-iff (leb low n) (leb n high) .0 e in
-    (leb-true low n (both .0), leb-true n high (both .1))
+use Rattle.rules.proofs.Tests.{between-high, between-is, between-low, between-true, by-found, by-order, by-test, if-false, if-true}
 
 -- ---- a hex digit
 

@@ -14,7 +14,8 @@ use Rattle.rules.specs.declared.Answer.the-variants.{NoRow, NoPlace}
 use Rattle.rules.specs.Limits.{granule, most-granules, redzone-byte, row-numbers, empty, live}
 use Rattle.rules.specs.Table.{rows, column, state, is-empty}
 use Rattle.rules.specs.Grant.{Acted, kept, counted, granules, fits, place, last-granule, granted, empty-row, grant-at, grant}
-use Rattle.rules.proofs.Lowest.{by-found, Lowest, lowest-some, lowest-none, below-all, AllEqual, all-equal-true, all-equal-is}
+use Rattle.rules.proofs.Tests.{by-found}
+use Rattle.rules.proofs.Lowest.{Lowest, lowest-some, lowest-none, below-all, AllEqual, all-equal-true, all-equal-is}
 use Rattle.rules.proofs.Put.{length-put}
 use Rattle.rules.proofs.Table.{length-put-row, column-put-row-other}
 
@@ -65,7 +66,7 @@ pub record Place (shadow : List ℕ) (R u p : ℕ) : Type 0 where
 fits-window : (R u p : ℕ) → R ≤ p → p - R + (R + u + R) ≡ p + u + R
 fits-window R u p low = omega arith
 
-fits-true : (shadow : List ℕ) (R u p : ℕ) → R ≤ p → p + u + R ≤ length shadow → fits shadow R u p ≡ true → Fits shadow R u p
+pub fits-true : (shadow : List ℕ) (R u p : ℕ) → R ≤ p → p + u + R ≤ length shadow → fits shadow R u p ≡ true → Fits shadow R u p
 unfolding fits
 fits-true shadow R u p low high e = record {
   low = low;
@@ -73,7 +74,7 @@ fits-true shadow R u p low high e = record {
   free = subst (λ w. AllFree shadow (p - R) w) (fits-window R u p low) (all-equal-true shadow redzone-byte (p - R) (R + u + R) e);
 }
 
-fits-is : (shadow : List ℕ) (R u p : ℕ) → Fits shadow R u p → fits shadow R u p ≡ true
+pub fits-is : (shadow : List ℕ) (R u p : ℕ) → Fits shadow R u p → fits shadow R u p ≡ true
 unfolding fits
 fits-is shadow R u p f =
     all-equal-is shadow redzone-byte (p - R) (R + u + R)

@@ -2,38 +2,17 @@
 -- changes by what one of its numbers changes by. Assumes nothing.
 use Prim.Native.Nat.{ℕ, zero, suc, _+_, _≤_, _<_}
 use native.Mathlib.Nat.{eq-or-lt-of-le, not-suc-le-zero}
-use native.Mathlib.Decide.{decLt}
 use native.Mathlib.Omega.{arith}
-use mathlib.Core.Path.{_≡_, refl, sym, ap, ap₂, subst, _∙_}
+use mathlib.Core.Path.{_≡_, sym, ap, ap₂, subst, _∙_}
 use mathlib.Core.Logic.{_≢_, ⊎-elim}
 use mathlib.Core.Bool.{Bool, true, false, not, true≢false}
-use mathlib.Core.Option.{Option, none, some, Option·some-injective, Option·none-ne-some}
+use mathlib.Core.Option.{none, some, Option·some-injective, Option·none-ne-some}
 use mathlib.Core.List.{List}
 use lib.ListN.{getD}
 use lib.Dec.{eqb}
 use borrow.Author.Tests.{eqb-true, eq-eqb, not-false}
 use Rattle.rules.specs.Lowest.{lowest, found, all-equal, total, lowest-zero, lowest-here, lowest-later, total-zero, total-suc}
-
--- a choice by a test whose value is known
-pub if-true {ℓ} : {A : Type ℓ} {t : Bool} (a b : A) → t ≡ true → (elim t as (λ _. A) [ true ↦ a | false ↦ b ]) ≡ a
-if-true {A} a b e = ap (λ (c : Bool). elim c as (λ _. A) [ true ↦ a | false ↦ b ]) e
-
-pub if-false {ℓ} : {A : Type ℓ} {t : Bool} (a b : A) → t ≡ false → (elim t as (λ _. A) [ true ↦ a | false ↦ b ]) ≡ b
-if-false {A} a b e = ap (λ (c : Bool). elim c as (λ _. A) [ true ↦ a | false ↦ b ]) e
-
--- by the two values of a test, each with its equation
-pub by-test {ℓ} : {P : Type ℓ} (t : Bool) → (t ≡ true → P) → (t ≡ false → P) → P
-by-test true passes fails = passes refl
-by-test false passes fails = fails refl
-
--- by what was found, each with its equation
-pub by-found {ℓ} : {P : Type ℓ} (o : Option ℕ) → ((k : ℕ) → o ≡ some k → P) → (o ≡ none → P) → P
-by-found (some k) one nothing = one k refl
-by-found none one nothing = nothing refl
-
--- by the order of two numbers
-pub by-order {ℓ} : {P : Type ℓ} (j k : ℕ) → (j < k → P) → (k ≤ j → P) → P
-by-order j k less more = elim (decLt j k) [ yes h ↦ less h | no h ↦ more (omega arith) ]
+use Rattle.rules.proofs.Tests.{by-found, by-order, by-test}
 
 -- ---- lowest
 

@@ -9,7 +9,7 @@ use Rattle.rules.specs.declared.Region.the-variants.{Nowhere, LowMem, Lo
 use Rattle.rules.specs.Limits.{granule}
 use Rattle.rules.specs.Answers.{status, in-numbers}
 use Rattle.rules.specs.Maps.{Map, map32, map64, shadow-address, region, region-number, map-answer, map-shadow, map-call}
-use Rattle.rules.proofs.Lowest.{if-true, if-false}
+use Rattle.rules.proofs.Tests.{if-false, if-true}
 
 -- how a published map's regions lie: one above the other, and each shadow where its memory maps
 pub record Published (map : Map) : Type 0 where

@@ -7,7 +7,7 @@ use mathlib.Core.List.{List, [], _++_, append-assoc}
 use lib.ListN.{length, getD, take, drop, replicate, length-append, length-drop, length-replicate, take-append-drop, getD-replicate, List·getD-append}
 use lib.Seq.{length-take-le, getD-append-add, getD-take, getD-drop, sets, sets-eq}
 use Rattle.rules.specs.Put.{put, fill}
-use Rattle.rules.proofs.Lowest.{by-order}
+use Rattle.rules.proofs.Tests.{by-order}
 
 -- ---- put
 

@@ -23,7 +23,7 @@ use Rattle.rules.specs.Frames.{with-zero, frame}
 use Rattle.rules.specs.Feed.{of-verdict, access, act}
 use Rattle.rules.specs.Calls.{table-length, open-with, within-limits, fits-lent, grant-call, release-call, access-call, unfinished-call, feed}
 use Rattle.rules.specs.Maps.{Map, region, map-answer, map-call}
-use Rattle.rules.proofs.Lowest.{by-test, by-found, by-order}
+use Rattle.rules.proofs.Tests.{by-found, by-order, by-test}
 use Rattle.rules.proofs.Shadow.{FirstBad, first-bad-some, verdict-none, verdict-some}
 use Rattle.rules.proofs.Grant.{by-grant}
 use Rattle.rules.proofs.Release.{by-release}

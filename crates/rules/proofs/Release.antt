@@ -18,22 +18,23 @@ use Rattle.rules.specs.Lowest.{total}
 use Rattle.rules.specs.Table.{rows, column, start, size, state, turn, is-quarantined, put-row}
 use Rattle.rules.specs.Grant.{Acted, kept, granules}
 use Rattle.rules.specs.Release.{starts-at, row-at, if-quarantined, in-quarantine, weight, weights, older, oldest, oldest-zero, oldest-here, oldest-other, Pool, paint-row, evict-row, evict-oldest, and-one-more, settle-in, settle, quarantine-row, release-row, release}
-use Rattle.rules.proofs.Lowest.{if-true, if-false, by-test, by-found, by-order, Lowest, lowest-some, lowest-none, below-all, total-change, le-total, total-above, total-most}
+use Rattle.rules.proofs.Tests.{by-found, by-order, by-test, if-false, if-true}
+use Rattle.rules.proofs.Lowest.{Lowest, lowest-some, lowest-none, below-all, total-change, le-total, total-above, total-most}
 use Rattle.rules.proofs.Put.{length-fill, fill-in, fill-before, fill-after}
 use Rattle.rules.proofs.Table.{rows-same, length-put-row, column-put-row, column-put-row-other, length-lessened, column-lessened, turn-lessened}
 use Rattle.rules.proofs.Grant.{SameLengths}
 
 -- ---- the oldest
 
-older-none : (table : List ℕ) (n : ℕ) → older table none n ≡ n
+pub older-none : (table : List ℕ) (n : ℕ) → older table none n ≡ n
 unfolding older
 older-none table n = refl
 
-older-lower : (table : List ℕ) (i n : ℕ) → turn table n < turn table i → older table (some i) n ≡ n
+pub older-lower : (table : List ℕ) (i n : ℕ) → turn table n < turn table i → older table (some i) n ≡ n
 unfolding older
 older-lower table i n less = if-true _ _ (lt-ltb (turn table n) (turn table i) less)
 
-older-kept : (table : List ℕ) (i n : ℕ) → turn table i ≤ turn table n → older table (some i) n ≡ i
+pub older-kept : (table : List ℕ) (i n : ℕ) → turn table i ≤ turn table n → older table (some i) n ≡ i
 unfolding older
 older-kept table i n more = if-false _ _ (le-ltb (turn table n) (turn table i) more)
 
@@ -114,16 +115,16 @@ four-zeros (suc (suc (suc zero))) = refl
 four-zeros (suc (suc (suc (suc k)))) = refl
 
 -- a number for a quarantined row, and for another
-if-quarantined-yes : (table : List ℕ) (f : ℕ → ℕ) (i : ℕ) → is-quarantined table i ≡ true → if-quarantined table f i ≡ f i
+pub if-quarantined-yes : (table : List ℕ) (f : ℕ → ℕ) (i : ℕ) → is-quarantined table i ≡ true → if-quarantined table f i ≡ f i
 unfolding if-quarantined
 if-quarantined-yes table f i e = if-true _ _ e
 
-if-quarantined-no : (table : List ℕ) (f : ℕ → ℕ) (i : ℕ) → is-quarantined table i ≡ false → if-quarantined table f i ≡ 0
+pub if-quarantined-no : (table : List ℕ) (f : ℕ → ℕ) (i : ℕ) → is-quarantined table i ≡ false → if-quarantined table f i ≡ 0
 unfolding if-quarantined
 if-quarantined-no table f i e = if-false _ _ e
 
 -- it goes by the state and the number alone
-if-quarantined-same : (table other : List ℕ) (f g : ℕ → ℕ) (i : ℕ) → state table i ≡ state other i → f i ≡ g i
+pub if-quarantined-same : (table other : List ℕ) (f g : ℕ → ℕ) (i : ℕ) → state table i ≡ state other i → f i ≡ g i
     → if-quarantined table f i ≡ if-quarantined other g i
 unfolding if-quarantined
 if-quarantined-same table other f g i states numbers = ap₂ {C = ℕ} (λ (s n : ℕ). elim (eqb s quarantined) as (λ _. ℕ) [ true ↦ n | false ↦ 0 ]) states numbers
@@ -358,14 +359,14 @@ pub record StartsAt (wanted : ℕ) (table : List ℕ) (a i : ℕ) : Type 0 where
   pub at : granule * start table i ≡ a
   pub first : (j : ℕ) → j < i → state table j ≡ wanted → granule * start table j ≢ a
 
-at-true : (wanted : ℕ) (table : List ℕ) (a i : ℕ) → (eqb (state table i) wanted && starts-at table a i) ≡ true
+pub at-true : (wanted : ℕ) (table : List ℕ) (a i : ℕ) → (eqb (state table i) wanted && starts-at table a i) ≡ true
     → (state table i ≡ wanted) × (granule * start table i ≡ a)
 unfolding starts-at
 at-true wanted table a i e =
     let both : (eqb (state table i) wanted ≡ true) × (starts-at table a i ≡ true) = and-eq-true-iff (eqb (state table i) wanted) (starts-at table a i) .0 e in
     (eqb-true (state table i) wanted (both .0), eqb-true (granule * start table i) a (both .1))
 
-at-is : (wanted : ℕ) (table : List ℕ) (a i : ℕ) → state table i ≡ wanted → granule * start table i ≡ a
+pub at-is : (wanted : ℕ) (table : List ℕ) (a i : ℕ) → state table i ≡ wanted → granule * start table i ≡ a
     → (eqb (state table i) wanted && starts-at table a i) ≡ true
 unfolding starts-at
 at-is wanted table a i has at =

@@ -14,7 +14,8 @@ use Rattle.rules.specs.declared.Verdict.{Verdict}
 use Rattle.rules.specs.declared.Verdict.the-variants.{Good, Bad}
 use Rattle.rules.specs.Limits.{granule, most-granules, outside}
 use Rattle.rules.specs.Shadow.{leading, signed, negative, inside, shadow-of, addressable, kind, first-bad, judge}
-use Rattle.rules.proofs.Lowest.{if-true, if-false, by-found, by-order, Lowest, lowest-some, lowest-none, lowest-is, lowest-no}
+use Rattle.rules.proofs.Tests.{by-found, by-order, if-false, if-true}
+use Rattle.rules.proofs.Lowest.{Lowest, lowest-some, lowest-none, lowest-is, lowest-no}
 
 -- ---- the byte
 

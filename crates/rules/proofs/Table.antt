@@ -9,7 +9,7 @@ use lib.ListN.{length, getD, set, length-set}
 use lib.Seq.{getD-set-same, getD-set-other}
 use Rattle.rules.specs.Limits.{row-numbers}
 use Rattle.rules.specs.Table.{rows, column, turn, put-row, lessened, lessened-zero, lessened-suc}
-use Rattle.rules.proofs.Lowest.{by-order}
+use Rattle.rules.proofs.Tests.{by-order}
 use Rattle.rules.proofs.Put.{length-put, put-in, put-before, put-after}
 
 -- the numbers of a row lie in the table

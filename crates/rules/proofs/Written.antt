@@ -13,7 +13,7 @@ use Rattle.rules.specs.Table.{start, size}
 use Rattle.rules.specs.Grant.{counted, granules, granted, grant-at, grant}
 use Rattle.rules.specs.Release.{Pool, paint-row, quarantine-row, release-row, release}
 use Rattle.rules.specs.Feed.{State, act, act-line, finish, hold, step, run}
-use Rattle.rules.proofs.Lowest.{by-order}
+use Rattle.rules.proofs.Tests.{by-order}
 use Rattle.rules.proofs.Put.{Each, put-each, fill-each}
 use Rattle.rules.proofs.Grant.{place-inside, length-granted, granted-whole, granted-last, by-grant}
 use Rattle.rules.proofs.Release.{by-release, settled-has, evict-row-shadow}

@@ -139,6 +139,49 @@ pub unaligned :
 unfolding by-the-rules
 unaligned = refl
 
+-- ---- both sides of a limit
+
+-- sizes 0, 1, 7, 8 and 9, a redzone of two granules between neighbours, and then no row
+pub sizes :
+    run (opened 24 2 0 5)
+    (text
+    ("010000000000000000" ∷ "010000000100000000" ∷ "010000000700000000" ∷ "010000000800000000" ∷ "010000000900000000" ∷ "010000000100000000" ∷ []))
+    ≡ record {
+      state = record {
+        session = fresh 24 5 2 0;
+        shadow = 0xfa ∷ 0xfa ∷ 0x01 ∷ 0xfa ∷ 0xfa ∷ 0x01 ∷ 0xfa ∷ 0xfa ∷ 0x07 ∷ 0xfa ∷ 0xfa ∷ 0x00 ∷ 0xfa ∷ 0xfa ∷ 0x00 ∷ 0x01 ∷ replicate 8 0xfa;
+        table = 2 ∷ 1 ∷ 1 ∷ 0 ∷ 5 ∷ 1 ∷ 1 ∷ 0 ∷ 8 ∷ 7 ∷ 1 ∷ 0 ∷ 11 ∷ 8 ∷ 1 ∷ 0 ∷ 14 ∷ 9 ∷ 1 ∷ 0 ∷ [];
+      };
+      report = text ("000000000010" ∷ "000000000028" ∷ "000000000040" ∷ "000000000058" ∷ "000000000070" ∷ "050000000000" ∷ []);
+    }
+unfolding by-the-rules
+sizes = refl
+
+-- of 16 granules the largest block has 12, 96 bytes; one byte more has no place, nor has the largest size there is
+pub largest :
+    run (opened 16 2 0 2) (text ("01ffffffff00000000" ∷ "010000006100000000" ∷ "010000006000000000" ∷ [])) .report
+    ≡ text ("060000000000" ∷ "060000000000" ∷ "000000000010" ∷ [])
+unfolding by-the-rules
+largest = refl
+
+-- the arena's first and last byte and the one past it, the last address there is, and nothing touched at either
+pub edges :
+    run state-after
+    (text
+    ("030000000000000001" ∷ "030000007f00000001" ∷ "030000008000000001" ∷ "030000008000000000" ∷ "03ffffffff00000001" ∷ "03ffffffffffffffff" ∷ "03ffffffff00000000" ∷ []))
+    .report
+    ≡ text
+    ("09fa00000000" ∷ "09fa0000007f" ∷ "09ff00000080" ∷ "000000000000" ∷ "09ffffffffff" ∷ "09ffffffffff" ∷ "000000000000" ∷ [])
+unfolding by-the-rules
+edges = refl
+
+-- the live block of 16 bytes at 10: whole, its last byte, one byte past it and one before it
+pub block-edges :
+    run state-after (text ("030000001000000010" ∷ "030000001f00000001" ∷ "030000001f00000002" ∷ "030000000f00000002" ∷ [])) .report
+    ≡ text ("000000000000" ∷ "000000000000" ∷ "09fa00000020" ∷ "09fa0000000f" ∷ [])
+unfolding by-the-rules
+block-edges = refl
+
 -- ---- frames in
 
 -- digits of either case; a carriage return, a digit too few, one too many and an empty line are refused 01, then 02 and 03
