@@ -396,3 +396,23 @@ pub unused-limits :
     × (unused-zero (set no-bytes 17 0x30) 19 ≡ true)
 unfolding unused-zero all-equal lowest
 unused-limits = (refl, refl, refl, refl, refl)
+
+pub unused-refused :
+    (within-limits (with-line (fresh 8 1 2 0) 3 (set no-bytes 3 0x30)) ≡ false)
+    × (within-limits (with-line (fresh 8 1 2 0) 4 (set no-bytes 3 0x30)) ≡ true)
+unfolding within-limits unused-zero all-equal lowest
+unused-refused = (refl, refl)
+
+-- lent lengths that are just the session's, and one off
+abbrev lent-lengths : ℕ → ℕ → Bool
+lent-lengths shadow table = fits-lent (fresh 8 1 2 0) (replicate shadow 0) (replicate table 0)
+
+pub lent-limits :
+    (lent-lengths 8 4 ≡ true)
+    × (lent-lengths 7 4 ≡ false)
+    × (lent-lengths 9 4 ≡ false)
+    × (lent-lengths 8 3 ≡ false)
+    × (lent-lengths 8 5 ≡ false)
+    × (lent-lengths 8 8 ≡ false)
+unfolding fits-lent within-limits unused-zero all-equal lowest
+lent-limits = (refl, refl, refl, refl, refl, refl)

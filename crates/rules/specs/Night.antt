@@ -240,3 +240,15 @@ pub scribbled :
     }
 unfolding by-the-rules
 scribbled = refl
+
+-- a live row whose start times 8 is 1_0000_0010: no release of 32 bits reaches it
+pub far-row :
+    run
+    (record { session = fresh 8 1 2 16; shadow = replicate 8 0xfa; table = 0x2000_0002 ∷ 8 ∷ 1 ∷ 0 ∷ [] })
+    (text ("020000001000000000" ∷ []))
+    ≡ record {
+      state = record { session = fresh 8 1 2 16; shadow = replicate 8 0xfa; table = 0x2000_0002 ∷ 8 ∷ 1 ∷ 0 ∷ [] };
+      report = text ("070000000000" ∷ []);
+    }
+unfolding by-the-rules
+far-row = refl
