@@ -173,11 +173,12 @@ pub open-done : (shadow table : List ℕ) (R Q : ℕ) → between least-granules
 unfolding open-with
 open-done shadow table R Q a b c = if-true _ _ a ∙ if-true _ _ b ∙ if-true _ _ c
 
--- by what an opening finds
+-- by what an opening finds, each case with the tests that were passed before it
 pub by-open {ℓ} : (shadow table : List ℕ) (R Q : ℕ) (P : OpenedWith → Type ℓ)
     → (between least-granules most-granules (length shadow) ≡ false → P (not-opened BadShadowLength shadow table))
-    → (between least-redzone most-redzone R ≡ false → P (not-opened BadRedzone shadow table))
-    → (table-length (length table) ≡ false → P (not-opened BadTableLength shadow table))
+    → (between least-granules most-granules (length shadow) ≡ true → between least-redzone most-redzone R ≡ false → P (not-opened BadRedzone shadow table))
+    → (between least-granules most-granules (length shadow) ≡ true → between least-redzone most-redzone R ≡ true
+    → table-length (length table) ≡ false → P (not-opened BadTableLength shadow table))
     → P (opened-with shadow table R Q) → P (open-with shadow table R Q)
 by-open shadow table R Q P bad-shadow bad-redzone bad-table done =
     by-test (between least-granules most-granules (length shadow))
@@ -186,8 +187,8 @@ by-open shadow table R Q P bad-shadow bad-redzone bad-table done =
     (λ b.
     by-test (table-length (length table))
     (λ c. subst P (sym (open-done shadow table R Q a b c)) done)
-    (λ c. subst P (sym (open-bad-table shadow table R Q a b c)) (bad-table c)))
-    (λ b. subst P (sym (open-bad-redzone shadow table R Q a b)) (bad-redzone b)))
+    (λ c. subst P (sym (open-bad-table shadow table R Q a b c)) (bad-table a b c)))
+    (λ b. subst P (sym (open-bad-redzone shadow table R Q a b)) (bad-redzone a b)))
     (λ a. subst P (sym (open-bad-shadow shadow table R Q a)) (bad-shadow a))
 
 -- a refused opening gives the closed session and writes nothing
@@ -198,7 +199,7 @@ pub open-refused : (shadow table : List ℕ) (R Q : ℕ) → NotOpened shadow ta
 unfolding status in-numbers
 open-refused shadow table R Q =
     by-open shadow table R Q (NotOpened shadow table)
-    (λ a refused. (refl, refl, refl)) (λ b refused. (refl, refl, refl)) (λ c refused. (refl, refl, refl)) (λ refused. absurd (refused refl))
+    (λ a refused. (refl, refl, refl)) (λ a b refused. (refl, refl, refl)) (λ a b c refused. (refl, refl, refl)) (λ refused. absurd (refused refl))
 
 -- an opened session fits the buffers that it was opened with
 pub open-lent : (shadow table : List ℕ) (R Q : ℕ) → between least-granules most-granules (length shadow) ≡ true

@@ -5,7 +5,7 @@ use native.Mathlib.Decide.{ℕ-discrete}
 use native.Mathlib.Omega.{arith}
 use mathlib.Core.Path.{_≡_, refl, sym, ap, subst, _∙_}
 use mathlib.Core.Logic.{_≢_}
-use mathlib.Core.Bool.{false}
+use mathlib.Core.Bool.{true, false}
 use mathlib.Core.Option.{none, some, Option·none-ne-some}
 use mathlib.Core.List.{List}
 use lib.ListN.{length}
@@ -39,11 +39,15 @@ only-05 R shadow table s =
     by-grant R shadow table s (λ acted. status (acted .answer) ≡ 5 → empty-row table ≡ none)
     (λ full e. full) (λ i row nowhere e. absurd (omega arith)) (λ i p row at e. absurd (omega arith))
 
-pub only-06 : (R : ℕ) (shadow table : List ℕ) (s : ℕ) → status (grant R shadow table s .answer) ≡ 6 → place shadow R (granules (counted s)) ≡ none
+-- 06 is asked after 05: a row was empty
+pub only-06 : (R : ℕ) (shadow table : List ℕ) (s : ℕ) → status (grant R shadow table s .answer) ≡ 6
+    → (empty-row table ≢ none) × (place shadow R (granules (counted s)) ≡ none)
 unfolding grant-at status in-numbers
 only-06 R shadow table s =
-    by-grant R shadow table s (λ acted. status (acted .answer) ≡ 6 → place shadow R (granules (counted s)) ≡ none)
-    (λ full e. absurd (omega arith)) (λ i row nowhere e. nowhere) (λ i p row at e. absurd (omega arith))
+    by-grant R shadow table s (λ acted. status (acted .answer) ≡ 6 → (empty-row table ≢ none) × (place shadow R (granules (counted s)) ≡ none))
+    (λ full e. absurd (omega arith))
+    (λ i row nowhere e. (λ full. Option·none-ne-some i (sym full ∙ row), nowhere))
+    (λ i p row at e. absurd (omega arith))
 
 -- ---- releases: 07 and 08
 
@@ -101,14 +105,14 @@ refusal (Refused answer) = status answer
 by-frame : (kind A B : ℕ) (P : Frame → Type 0)
     → ((k : Frame) → refusal k ≡ 0 → P k)
     → ((kind ≡ kind-grant → ⊥) → (kind ≡ kind-release → ⊥) → (kind ≡ kind-read → ⊥) → (kind ≡ kind-write → ⊥) → P (Refused BadKind))
-    → (B ≢ 0 → kind ≤ kind-release → P (Refused NotZero)) → P (frame kind A B)
+    → (B ≢ 0 → kind-grant ≤ kind → kind ≤ kind-release → P (Refused NotZero)) → P (frame kind A B)
 unfolding refusal
 by-frame kind A B P asked other not-zero =
     elim (ℕ-discrete kind kind-grant) [
-      | yes e ↦ subst (λ k. P (frame k A B)) (sym e) (subst P (sym (frame-grant A B)) (zeroed (Grant A) refl (omega arith)))
+      | yes e ↦ subst (λ k. P (frame k A B)) (sym e) (subst P (sym (frame-grant A B)) (zeroed (Grant A) refl (omega arith) (omega arith)))
       | no not-grant ↦
           elim (ℕ-discrete kind kind-release) [
-            | yes e ↦ subst (λ k. P (frame k A B)) (sym e) (subst P (sym (frame-release A B)) (zeroed (Release A) refl (omega arith)))
+            | yes e ↦ subst (λ k. P (frame k A B)) (sym e) (subst P (sym (frame-release A B)) (zeroed (Release A) refl (omega arith) (omega arith)))
             | no not-release ↦
                 elim (ℕ-discrete kind kind-read) [
                   | yes e ↦ subst (λ k. P (frame k A B)) (sym e) (subst P (sym (frame-read A B)) (asked (Read A B) refl))
@@ -121,18 +125,18 @@ by-frame kind A B P asked other not-zero =
           ]
     ]
   where
-    zeroed : (k : Frame) → refusal k ≡ 0 → kind ≤ kind-release → P (with-zero B k)
-    zeroed k fine small =
+    zeroed : (k : Frame) → refusal k ≡ 0 → kind-grant ≤ kind → kind ≤ kind-release → P (with-zero B k)
+    zeroed k fine from small =
         elim (ℕ-discrete B 0) [
           | yes e ↦ subst (λ c. P (with-zero c k)) (sym e) (subst P (sym (with-zero-is k)) (asked k fine))
-          | no above ↦ subst P (sym (with-zero-not B k above)) (not-zero above small)
+          | no above ↦ subst P (sym (with-zero-not B k above)) (not-zero above from small)
         ]
 
 -- 18 hex digits are never refused 01
 pub only-01 : (kind A B : ℕ) → refusal (frame kind A B) ≢ 1
 unfolding refusal status in-numbers
 only-01 kind A B =
-    by-frame kind A B (λ k. refusal k ≢ 1) (λ k fine e. absurd (omega arith)) (λ a b c d e. absurd (omega arith)) (λ above small e. absurd (omega arith))
+    by-frame kind A B (λ k. refusal k ≢ 1) (λ k fine e. absurd (omega arith)) (λ a b c d e. absurd (omega arith)) (λ above from small e. absurd (omega arith))
 
 pub only-02 : (kind A B : ℕ) → refusal (frame kind A B) ≡ 2 → kind-grant ≤ kind → kind ≤ kind-write → ⊥
 unfolding refusal status in-numbers
@@ -140,33 +144,37 @@ only-02 kind A B =
     by-frame kind A B (λ k. refusal k ≡ 2 → kind-grant ≤ kind → kind ≤ kind-write → ⊥)
     (λ k fine e from upto. omega arith)
     (λ a b c d e from upto. omega arith)
-    (λ above small e from upto. omega arith)
+    (λ above least small e from upto. omega arith)
 
-pub only-03 : (kind A B : ℕ) → refusal (frame kind A B) ≡ 3 → (B ≢ 0) × (kind ≤ kind-release)
+pub only-03 : (kind A B : ℕ) → refusal (frame kind A B) ≡ 3 → (B ≢ 0) × (kind-grant ≤ kind) × (kind ≤ kind-release)
 unfolding refusal status in-numbers
 only-03 kind A B =
-    by-frame kind A B (λ k. refusal k ≡ 3 → (B ≢ 0) × (kind ≤ kind-release))
-    (λ k fine e. absurd (omega arith)) (λ a b c d e. absurd (omega arith)) (λ above small e. (above, small))
+    by-frame kind A B (λ k. refusal k ≡ 3 → (B ≢ 0) × (kind-grant ≤ kind) × (kind ≤ kind-release))
+    (λ k fine e. absurd (omega arith)) (λ a b c d e. absurd (omega arith)) (λ above from small e. (above, from, small))
 
 -- ---- openings: 21 to 23
 
-pub only-21 : (shadow table : List ℕ) (R Q : ℕ) → open-with shadow table R Q .given .status ≡ 21 → between least-granules most-granules (length shadow) ≡ false
+pub only-21 : (shadow table : List ℕ) (R Q : ℕ) → open-with shadow table R Q .given .status ≡ 21
+    → between least-granules most-granules (length shadow) ≡ false
 unfolding status in-numbers
 only-21 shadow table R Q =
     by-open shadow table R Q (λ o. o .given .status ≡ 21 → between least-granules most-granules (length shadow) ≡ false)
-    (λ a e. a) (λ b e. absurd (omega arith)) (λ c e. absurd (omega arith)) (λ e. absurd (omega arith))
+    (λ a e. a) (λ a b e. absurd (omega arith)) (λ a b c e. absurd (omega arith)) (λ e. absurd (omega arith))
 
-pub only-22 : (shadow table : List ℕ) (R Q : ℕ) → open-with shadow table R Q .given .status ≡ 22 → between least-redzone most-redzone R ≡ false
+-- each asked after the ones before it
+pub only-22 : (shadow table : List ℕ) (R Q : ℕ) → open-with shadow table R Q .given .status ≡ 22
+    → (between least-granules most-granules (length shadow) ≡ true) × (between least-redzone most-redzone R ≡ false)
 unfolding status in-numbers
 only-22 shadow table R Q =
-    by-open shadow table R Q (λ o. o .given .status ≡ 22 → between least-redzone most-redzone R ≡ false)
-    (λ a e. absurd (omega arith)) (λ b e. b) (λ c e. absurd (omega arith)) (λ e. absurd (omega arith))
+    by-open shadow table R Q (λ o. o .given .status ≡ 22 → (between least-granules most-granules (length shadow) ≡ true) × (between least-redzone most-redzone R ≡ false))
+    (λ a e. absurd (omega arith)) (λ a b e. (a, b)) (λ a b c e. absurd (omega arith)) (λ e. absurd (omega arith))
 
-pub only-23 : (shadow table : List ℕ) (R Q : ℕ) → open-with shadow table R Q .given .status ≡ 23 → table-length (length table) ≡ false
+pub only-23 : (shadow table : List ℕ) (R Q : ℕ) → open-with shadow table R Q .given .status ≡ 23
+    → (between least-granules most-granules (length shadow) ≡ true) × (between least-redzone most-redzone R ≡ true) × (table-length (length table) ≡ false)
 unfolding status in-numbers
 only-23 shadow table R Q =
-    by-open shadow table R Q (λ o. o .given .status ≡ 23 → table-length (length table) ≡ false)
-    (λ a e. absurd (omega arith)) (λ b e. absurd (omega arith)) (λ c e. c) (λ e. absurd (omega arith))
+    by-open shadow table R Q (λ o. o .given .status ≡ 23 → (between least-granules most-granules (length shadow) ≡ true) × (between least-redzone most-redzone R ≡ true) × (table-length (length table) ≡ false))
+    (λ a e. absurd (omega arith)) (λ a b e. absurd (omega arith)) (λ a b c e. (a, b, c)) (λ e. absurd (omega arith))
 
 -- ---- later calls: 24
 

@@ -86,8 +86,8 @@ pub record Settled : Type 0 where
 abbrev pub and-one-more : Settled → Settled
 and-one-more settled = record { pool = settled .pool; evicted = settled .evicted + 1 }
 
--- while the weights sum to more than Q, the oldest is evicted; each eviction leaves one fewer quarantined, so as many turns as
--- are quarantined are enough: `settle-done` and `settle-more`, in the laws, are the equations, and nothing else looks at the count
+-- while the weights sum to more than Q, the oldest is evicted; each eviction leaves one fewer quarantined, so as many rounds
+-- as are quarantined are enough: `settle-done` and `settle-more`, in the laws, are the equations, and nothing else looks at the count
 unfoldable pub settle-in : ℕ → ℕ → ℕ → Pool → Settled
 settle-in zero R Q pool = record { pool = pool; evicted = 0 }
 settle-in (suc left) R Q pool =

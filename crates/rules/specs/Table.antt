@@ -5,7 +5,7 @@ use mathlib.Core.Bool.{Bool}
 use mathlib.Core.List.{List, [], _∷_}
 use lib.ListN.{length, getD, set}
 use lib.Dec.{eqb}
-use Rattle.rules.specs.Limits.{row-numbers, empty, live, quarantined}
+use Rattle.rules.specs.Limits.{row-numbers, empty, quarantined}
 use Rattle.rules.specs.Put.{put}
 
 -- how many rows a table has
@@ -32,12 +32,9 @@ turn = column 3
 unfoldable pub put-row : List ℕ → ℕ → ℕ → ℕ → ℕ → ℕ → List ℕ
 put-row table i start size state turn = put table (row-numbers * i) (start ∷ size ∷ state ∷ turn ∷ [])
 
--- a row is empty, live or quarantined by its state; a state above 2 is neither empty nor held
+-- a row is empty, live or quarantined by its state alone; a state above 2 is neither empty nor held
 abbrev pub is-empty : List ℕ → ℕ → Bool
 is-empty table i = eqb (state table i) empty
-
-abbrev pub is-live : List ℕ → ℕ → Bool
-is-live table i = eqb (state table i) live
 
 abbrev pub is-quarantined : List ℕ → ℕ → Bool
 is-quarantined table i = eqb (state table i) quarantined
