@@ -1,13 +1,13 @@
 -- The laws of frames: a hex digit's value, that what is written in digits reads back, when a line is refused 01, 02 or 03, and the
 -- length of an answer. Assumes nothing.
 use Prim.Native.Nat.{ℕ, zero, suc, _+_, _-_, _*_, _/_, _%_, _^_, _≤_, _<_, zero-le}
-use native.Mathlib.Nat.{le-of-eq, add-assoc, add-mul, mul-comm, mul-assoc, pow-succ', one-le-pow, mod-one, mod-lt, mod-eq-of-lt}
+use native.Mathlib.Nat.{le-of-eq, add-assoc, add-mul, mul-comm, mul-assoc, pow-succ', one-le-pow, mod-one, mod-lt, mod-eq-of-lt, lt-of-lt-of-le, mul-le-mul-right, min-le-left, pow-le-pow-right}
 use native.Mathlib.Omega.{arith}
-use mathlib.Core.Path.{_≡_, refl, sym, ap, _∙_}
+use mathlib.Core.Path.{_≡_, refl, sym, ap, subst, _∙_}
 use mathlib.Core.Logic.{_≢_}
 use mathlib.Core.Option.{none, some, Option·none-ne-some, Option·some-injective}
 use mathlib.Core.List.{List, [], _∷_, _++_}
-use lib.ListN.{length, getD, take, drop, length-append, length-drop}
+use lib.ListN.{length, getD, take, drop, length-append, length-take, length-drop}
 use lib.Seq.{take-at, drop-at, take-all, drop-drop, getD-take, getD-drop, length-take-le}
 use lib.Arith.{mod-mul}
 use borrow.Author.Tests.{ne-eqb, lt-ltb, le-ltb}
@@ -15,8 +15,8 @@ use Rattle.rules.specs.declared.Answer.{Answer}
 use Rattle.rules.specs.declared.Answer.the-variants.{BadLine, BadKind, NotZero}
 use Rattle.rules.specs.declared.Frame.{Frame}
 use Rattle.rules.specs.declared.Frame.the-variants.{Grant, Release, Read, Write, Refused}
-use Rattle.rules.specs.Limits.{between, frame-digits, line-feed, answer-bytes, kind-grant, kind-release, kind-read, kind-write}
-use Rattle.rules.specs.Frames.{hex-digit, number-on, number-nil, number-cons, number-stop, number, with-zero, frame, frame-of-digits, frame-of-line, digit, digits, digits-zero, digits-suc, answer-line}
+use Rattle.rules.specs.Limits.{between, frame-digits, line-feed, no-digit, answer-bytes, kind-grant, kind-release, kind-read, kind-write}
+use Rattle.rules.specs.Frames.{hex-digit, digit-value, number-on, number-nil, number-cons, number-stop, number, with-zero, frame, frame-of-digits, frame-of-line, digit, digits, digits-zero, digits-suc, answer-line}
 use Rattle.rules.proofs.Tests.{between-high, between-is, between-low, between-true, by-found, by-order, by-test, if-false, if-true}
 
 -- ---- a hex digit
@@ -79,6 +79,27 @@ hex-digit-below b d e =
     (λ from upto. omega (arith, Option·some-injective d (b - 0x41 + 10) (sym e ∙ hex-digit-capital b from upto)))
     (λ other. absurd (Option·none-ne-some d (sym other ∙ e)))
 
+-- the value with its mark: a value where it is below the mark, and none where it is not
+pub digit-value-some : (b d : ℕ) → hex-digit b ≡ some d → digit-value b ≡ d
+unfolding digit-value
+digit-value-some b d e = rw (e, digit-value)
+
+pub digit-value-none : (b : ℕ) → hex-digit b ≡ none → digit-value b ≡ no-digit
+unfolding digit-value
+digit-value-none b e = rw (e, digit-value)
+
+pub value-some : (b : ℕ) → digit-value b < no-digit → hex-digit b ≡ some (digit-value b)
+value-some b below =
+    by-found (hex-digit b)
+    (λ d e. e ∙ ap some (sym (digit-value-some b d e)))
+    (λ e. absurd (omega (arith, digit-value-none b e)))
+
+pub value-none : (b : ℕ) → no-digit ≤ digit-value b → hex-digit b ≡ none
+value-none b mark =
+    by-found (hex-digit b)
+    (λ d e. absurd (omega (arith, digit-value-some b d e, hex-digit-below b d e)))
+    (λ e. e)
+
 -- neither a line feed nor a carriage return is a digit
 pub no-line-feed : hex-digit line-feed ≡ none
 unfolding hex-digit
@@ -108,6 +129,28 @@ number-some n (b ∷ bs) all =
     let rest : (v : ℕ) × (number-on (16 * n + d) bs ≡ some v) = number-some (16 * n + d) bs (λ k below. all (suc k) (omega arith)) in
     (rest .0, number-cons n b d bs f ∙ rest .1))
     (λ f. absurd (all zero (omega arith) f))
+
+-- a number of k digits, read on from n, is below (n + 1) x 16 ^ k
+pub number-below : (n : ℕ) (bs : List ℕ) (v : ℕ) → number-on n bs ≡ some v → v < (n + 1) * 16 ^ length bs
+number-below n [] v e = omega (arith, Option·some-injective n v (sym (number-nil n) ∙ e))
+number-below n (b ∷ bs) v e =
+    by-found (hex-digit b)
+    (λ d f.
+    let rest : v < (16 * n + d + 1) * 16 ^ length bs = number-below (16 * n + d) bs v (sym (number-cons n b d bs f) ∙ e) in
+    let digit-below : d < 16 = hex-digit-below b d f in
+    lt-of-lt-of-le rest
+    (subst (λ m. (16 * n + d + 1) * 16 ^ length bs ≤ m)
+    (mul-assoc (n + 1) 16 (16 ^ length bs) ∙ ap (λ p. (n + 1) * p) (sym (pow-succ' 16 (length bs))))
+    (mul-le-mul-right (16 ^ length bs) (omega arith))))
+    (λ f. absurd (Option·none-ne-some v (sym (number-stop n b bs f) ∙ e)))
+
+-- at most n digits say a number below 16 ^ n
+pub number-fits : (n : ℕ) (bs : List ℕ) (v : ℕ) → number (take n bs) ≡ some v → v < 16 ^ n
+unfolding number
+number-fits n bs v e =
+    let few : length (take n bs) ≤ n = subst (λ k. k ≤ n) (sym (length-take n bs)) (min-le-left n (length bs)) in
+    let most : 16 ^ length (take n bs) ≤ 16 ^ n = pow-le-pow-right (omega arith) few in
+    omega (arith, number-below 0 (take n bs) v e)
 
 -- ---- digits
 
@@ -193,15 +236,15 @@ unfolding frame-of-digits
 frame-of-numbers line kind A B k a b = rw (k, frame-of-digits) (rw a (rw b))
 
 -- 01 where one of the three is no number
-bad-kind : (line : List ℕ) → number (take 2 line) ≡ none → frame-of-digits line ≡ Refused BadLine
+pub bad-kind : (line : List ℕ) → number (take 2 line) ≡ none → frame-of-digits line ≡ Refused BadLine
 unfolding frame-of-digits
 bad-kind line k = rw (k, frame-of-digits)
 
-bad-first : (line : List ℕ) → number (take 8 (drop 2 line)) ≡ none → frame-of-digits line ≡ Refused BadLine
+pub bad-first : (line : List ℕ) → number (take 8 (drop 2 line)) ≡ none → frame-of-digits line ≡ Refused BadLine
 unfolding frame-of-digits
 bad-first line a = by-found (number (take 2 line)) (λ kind k. rw (k, frame-of-digits) (rw a)) (λ k. bad-kind line k)
 
-bad-second : (line : List ℕ) → number (take 8 (drop 10 line)) ≡ none → frame-of-digits line ≡ Refused BadLine
+pub bad-second : (line : List ℕ) → number (take 8 (drop 10 line)) ≡ none → frame-of-digits line ≡ Refused BadLine
 unfolding frame-of-digits
 bad-second line b =
     by-found (number (take 2 line))

@@ -7,14 +7,14 @@ use mathlib.Core.Logic.{_≢_}
 use mathlib.Core.Bool.{true, true≢false}
 use mathlib.Core.Option.{none, some}
 use mathlib.Core.List.{List, _++_}
-use lib.ListN.{length, getD, replicate, length-append, length-replicate, getD-replicate, List·getD-append}
-use lib.Seq.{getD-append-add}
+use lib.ListN.{length, getD, replicate, set, length-append, length-replicate, length-set, getD-replicate, List·getD-append}
+use lib.Seq.{getD-append-add, getD-set-same, getD-set-other, ext-getD}
 use borrow.Author.Tests.{eqb-true, eq-eqb}
 use Rattle.rules.specs.declared.Answer.the-variants.{NoRow, NoPlace}
 use Rattle.rules.specs.Limits.{granule, most-granules, redzone-byte, row-numbers, empty, live}
 use Rattle.rules.specs.Table.{rows, column, state, is-empty}
 use Rattle.rules.specs.Grant.{Acted, kept, counted, granules, fits, place, last-granule, granted, empty-row, grant-at, grant}
-use Rattle.rules.proofs.Tests.{by-found}
+use Rattle.rules.proofs.Tests.{by-found, by-order}
 use Rattle.rules.proofs.Lowest.{Lowest, lowest-some, lowest-none, below-all, AllEqual, all-equal-true, all-equal-is}
 use Rattle.rules.proofs.Put.{length-put}
 use Rattle.rules.proofs.Table.{length-put-row, column-put-row-other}
@@ -154,6 +154,33 @@ granted-last s =
     ap (λ m. getD (replicate (s / granule) 0 ++ last-granule (s % granule)) m 0) (sym e)
     ∙ getD-append-add (replicate (s / granule) 0) (last-granule (s % granule)) 0 0
     ∙ getD-last (s % granule)
+
+-- so it is zeros, with the remainder stored in the last where there is one
+pub granted-even : (s : ℕ) → s % granule ≡ 0 → replicate (granules s) 0 ≡ granted s
+granted-even s even =
+    ext-getD 0 (replicate (granules s) 0) (granted s) (length-zeros (granules s) ∙ sym (length-granted s))
+    (λ k below.
+    let in-block : k < granules s = omega (arith, length-zeros (granules s)) in
+    getD-replicate (granules s) k 0 0 in-block ∙ sym (granted-whole s k (omega (arith, granules-least s))))
+
+pub granted-rest : (s : ℕ) → s % granule ≢ 0 → set (replicate (granules s) 0) (s / granule) (s % granule) ≡ granted s
+granted-rest s rest =
+    let zeros : List ℕ = replicate (granules s) 0 in
+    let same : length (set zeros (s / granule) (s % granule)) ≡ granules s = length-set zeros (s / granule) (s % granule) ∙ length-zeros (granules s) in
+    ext-getD 0 (set zeros (s / granule) (s % granule)) (granted s) (same ∙ sym (length-granted s))
+    (λ k below.
+    let in-block : k < granules s = omega arith in
+    by-order k (s / granule)
+    (λ whole.
+    getD-set-other zeros (s / granule) k (s % granule) 0 (λ e. absurd (omega arith))
+    ∙ getD-replicate (granules s) k 0 0 in-block
+    ∙ sym (granted-whole s k whole))
+    (λ last.
+    let is-last : k ≡ s / granule = omega (arith, granules-least s) in
+    ap (λ m. getD (set zeros (s / granule) (s % granule)) m 0) is-last
+    ∙ getD-set-same zeros (s / granule) (s % granule) 0 (omega (arith, length-zeros (granules s)))
+    ∙ sym (granted-last s)
+    ∙ ap (λ m. getD (granted s) m 0) (sym is-last)))
 
 -- ---- the row
 

@@ -1,17 +1,19 @@
 -- The laws of `lowest` and `total`: what is found is the lowest that passes, none is found exactly where none passes, and a sum
 -- changes by what one of its numbers changes by. Assumes nothing.
-use Prim.Native.Nat.{ℕ, zero, suc, _+_, _≤_, _<_}
-use native.Mathlib.Nat.{eq-or-lt-of-le, not-suc-le-zero}
+use Prim.Native.Nat.{ℕ, zero, suc, _+_, _-_, _*_, _≤_, _<_, zero-le}
+use native.Mathlib.Nat.{eq-or-lt-of-le, not-suc-le-zero, suc-mul}
+use native.Mathlib.Numerals.{add-one}
 use native.Mathlib.Omega.{arith}
-use mathlib.Core.Path.{_≡_, sym, ap, ap₂, subst, _∙_}
+use mathlib.Core.Path.{_≡_, refl, sym, ap, ap₂, subst, _∙_}
 use mathlib.Core.Logic.{_≢_, ⊎-elim}
 use mathlib.Core.Bool.{Bool, true, false, not, true≢false}
-use mathlib.Core.Option.{none, some, Option·some-injective, Option·none-ne-some}
+use mathlib.Core.Option.{Option, none, some, Option·some-injective, Option·none-ne-some}
 use mathlib.Core.List.{List}
-use lib.ListN.{getD}
+use lib.ListN.{length, getD}
 use lib.Dec.{eqb}
 use borrow.Author.Tests.{eqb-true, eq-eqb, not-false}
-use Rattle.rules.specs.Lowest.{lowest, found, all-equal, total, lowest-zero, lowest-here, lowest-later, total-zero, total-suc}
+use Rattle.rules.specs.declared.Found.the-variants.{One, Nothing}
+use Rattle.rules.specs.Lowest.{lowest, found, answered, all-equal, every-entry, total, lowest-zero, lowest-here, lowest-later, total-zero, total-suc}
 use Rattle.rules.proofs.Tests.{by-found, by-order, by-test}
 
 -- ---- lowest
@@ -35,6 +37,11 @@ NonePasses test n i = (j : ℕ) → i ≤ j → j < i + n → test j ≡ false
 from-here : (P : ℕ → Type 0) (i : ℕ) → P i → (k : ℕ) → ((j : ℕ) → suc i ≤ j → j < k → P j) → (j : ℕ) → i ≤ j → j < k → P j
 from-here P i here k above j from below =
     ⊎-elim (λ same. subst P same here) (λ less. above j less below) (eq-or-lt-of-le from)
+
+-- what holds from i to k - 1, and of k, holds from i to k: the step of a loop that walks up
+pub and-next : (P : ℕ → Type 0) (i k : ℕ) → ((j : ℕ) → i ≤ j → j < k → P j) → P k → (j : ℕ) → i ≤ j → j < k + 1 → P j
+and-next P i k before here j from below =
+    by-order j k (λ less. before j from less) (λ more. let same : k ≡ j = omega arith in subst P same here)
 
 pub lowest-some : (test : ℕ → Bool) (n i k : ℕ) → lowest test n i ≡ some k → Lowest test n i k
 lowest-some test zero i k e = absurd (Option·none-ne-some k (sym (lowest-zero test i) ∙ e))
@@ -112,6 +119,53 @@ lowest-skip test n m i fails =
     (λ j a b. by-order j (i + n) (λ less. fails j a less) (λ more. lowest-none test m (i + n) e j more (omega arith)))
     ∙ sym e)
 
+-- a loop that walks from i up to e: it begins at 0, has found one, goes on, or is at the end
+pub walk-start : (test : ℕ → Bool) (e : ℕ) → lowest test e 0 ≡ lowest test (e - 0) 0
+walk-start test e = let all : e ≡ e - 0 = omega arith in ap (λ n. lowest test n 0) all
+
+pub walk-found : (test : ℕ → Bool) (e i : ℕ) → i < e → test i ≡ true → lowest test (e - i) i ≡ some i
+walk-found test e i below passes =
+    let left : e - i ≡ suc (e - suc i) = omega arith in
+    ap (λ n. lowest test n i) left ∙ lowest-here test (e - suc i) i passes
+
+pub walk-on : (test : ℕ → Bool) (e i : ℕ) → i < e → test i ≡ false → lowest test (e - i) i ≡ lowest test (e - (i + 1)) (i + 1)
+walk-on test e i below fails =
+    let left : e - i ≡ suc (e - (i + 1)) = omega arith in
+    ap (λ n. lowest test n i) left ∙ lowest-later test (e - (i + 1)) i fails ∙ ap (lowest test (e - (i + 1))) (sym (add-one i))
+
+pub walk-end : (test : ℕ → Bool) (e i : ℕ) → e ≤ i → lowest test (e - i) i ≡ none
+walk-end test e i end =
+    let left : e - i ≡ zero = omega arith in
+    ap (λ n. lowest test n i) left ∙ lowest-zero test i
+
+-- one number more: what was found before it stays, and else it may be that one
+pub one-more-found : (test : ℕ → Bool) (n k : ℕ) → lowest test n 0 ≡ some k → lowest test (suc n) 0 ≡ some k
+one-more-found test n k e =
+    let l : Lowest test n 0 k = lowest-some test n 0 k e in
+    lowest-is test (suc n) 0 k (record { from = l .from; below = omega (arith, below-all l); passes = l .passes; first = l .first })
+
+pub one-more-here : (test : ℕ → Bool) (n : ℕ) → lowest test n 0 ≡ none → test n ≡ true → lowest test (suc n) 0 ≡ some n
+one-more-here test n e passes =
+    lowest-is test (suc n) 0 n
+    (record { from = zero-le; below = omega arith; passes = passes; first = λ j from below. lowest-none test n 0 e j from (omega arith) })
+
+pub one-more-none : (test : ℕ → Bool) (n : ℕ) → lowest test n 0 ≡ none → test n ≡ false → lowest test (suc n) 0 ≡ none
+one-more-none test n e fails =
+    lowest-no test (suc n) 0
+    (λ j from below.
+    by-order j n
+    (λ less. lowest-none test n 0 e j from (omega arith))
+    (λ last. let same : n ≡ j = omega arith in subst (λ m. test m ≡ false) same fails))
+
+-- what was answered, taken back
+pub answered-one : (o : Option ℕ) (k : ℕ) → One k ≡ answered o → o ≡ some k
+answered-one none k e = cc
+answered-one (some j) k e = cc
+
+pub answered-nothing : (o : Option ℕ) → Nothing ≡ answered o → o ≡ none
+answered-nothing none e = refl
+answered-nothing (some j) e = cc
+
 -- ---- a window
 
 -- every number of a list from place i to place e - 1 is v
@@ -132,6 +186,17 @@ unfolding all-equal
 all-equal-is list v i n same =
     ap (λ o. not (found o))
     (lowest-no (λ j. not (eqb (getD list j 0) v)) n i (λ k from below. ap not (eq-eqb (getD list k 0) v (same k from below))))
+
+-- ---- a table
+
+-- the test over all entries, carried to each lookup
+pub at-entry : (table : List ℕ) (rule : ℕ → ℕ) → every-entry table rule ≡ true → (k : ℕ) → k < length table → getD table k 0 ≡ rule k
+at-entry table rule e k below =
+    by-found (lowest (λ j. not (eqb (getD table j 0) (rule j))) (length table) 0)
+    (λ b f. absurd (true≢false (sym e ∙ ap (λ o. not (found o)) f)))
+    (λ f.
+    eqb-true (getD table k 0) (rule k)
+    (not-false (eqb (getD table k 0) (rule k)) (lowest-none (λ j. not (eqb (getD table j 0) (rule j))) (length table) 0 f k zero-le (omega arith))))
 
 -- ---- total
 
@@ -180,8 +245,8 @@ total-above f (suc n) l =
     let before : (k : ℕ) × (k < n) × (0 < f k) = total-above f n (let e : total f (suc n) ≡ total f n + f n = total-suc f n in omega arith) in
     (before .0, (let b : before .0 < n = before .1 in omega arith), before .2))
 
--- n numbers of at most 1 sum to at most n
-pub total-most : (f : ℕ → ℕ) (n : ℕ) → ((j : ℕ) → j < n → f j ≤ 1) → total f n ≤ n
-total-most f zero most = omega (arith, total-zero f)
-total-most f (suc n) most =
-    omega (arith, total-suc f n, total-most f n (λ j below. most j (omega arith)), most n (omega arith))
+-- n numbers of at most m sum to at most n x m
+pub total-most : (f : ℕ → ℕ) (m n : ℕ) → ((j : ℕ) → j < n → f j ≤ m) → total f n ≤ n * m
+total-most f m zero most = omega (arith, total-zero f)
+total-most f m (suc n) most =
+    omega (arith, total-suc f n, total-most f m n (λ j below. most j (omega arith)), most n (omega arith), suc-mul n m)

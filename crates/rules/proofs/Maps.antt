@@ -8,21 +8,22 @@ use Rattle.rules.specs.declared.Region.{Region}
 use Rattle.rules.specs.declared.Region.the-variants.{Nowhere, LowMem, LowShadow, ShadowGap, HighShadow, HighMem}
 use Rattle.rules.specs.Limits.{granule}
 use Rattle.rules.specs.Answers.{status, in-numbers}
-use Rattle.rules.specs.Maps.{Map, map32, map64, shadow-address, region, region-number, map-answer, map-shadow, map-call}
+use Rattle.rules.specs.declared.Map.{Map}
+use Rattle.rules.specs.Maps.{map32, map64, shadow-address, region, region-number, map-answer, map-shadow, map-call}
 use Rattle.rules.proofs.Tests.{if-false, if-true}
 
 -- how a published map's regions lie: one above the other, and each shadow where its memory maps
 pub record Published (map : Map) : Type 0 where
-  pub low : map .low-mem < map .low-shadow
-  pub gap : map .low-shadow < map .shadow-gap
-  pub shadow : map .shadow-gap < map .high-shadow
-  pub high : map .high-shadow < map .high-mem
-  pub low-shadow-first : map .offset ≡ map .low-mem + 1
-  pub low-shadow-last : map .low-mem / granule + map .offset ≡ map .low-shadow
-  pub high-shadow-first : (map .high-shadow + 1) / granule + map .offset ≡ map .shadow-gap + 1
-  pub high-shadow-last : map .high-mem / granule + map .offset ≡ map .high-shadow
-  pub gap-first : (map .low-mem + 1) / granule + map .offset ≡ map .low-shadow + 1
-  pub gap-last : map .high-shadow / granule + map .offset ≡ map .shadow-gap
+  pub low : map .«low_mem» < map .«low_shadow»
+  pub gap : map .«low_shadow» < map .«shadow_gap»
+  pub shadow : map .«shadow_gap» < map .«high_shadow»
+  pub high : map .«high_shadow» < map .«high_mem»
+  pub low-shadow-first : map .offset ≡ map .«low_mem» + 1
+  pub low-shadow-last : map .«low_mem» / granule + map .offset ≡ map .«low_shadow»
+  pub high-shadow-first : (map .«high_shadow» + 1) / granule + map .offset ≡ map .«shadow_gap» + 1
+  pub high-shadow-last : map .«high_mem» / granule + map .offset ≡ map .«high_shadow»
+  pub gap-first : (map .«low_mem» + 1) / granule + map .offset ≡ map .«low_shadow» + 1
+  pub gap-last : map .«high_shadow» / granule + map .offset ≡ map .«shadow_gap»
 
 pub published32 : Published map32
 published32 = omega arith
@@ -32,65 +33,65 @@ published64 = omega arith
 
 module _ (map : Map) (p : Published map) where
   -- the rows of the table: an address is in the region whose bounds it is between
-  pub in-low-mem : (a : ℕ) → a ≤ map .low-mem → region map a ≡ LowMem
+  pub in-low-mem : (a : ℕ) → a ≤ map .«low_mem» → region map a ≡ LowMem
   unfolding region
-  in-low-mem a last = if-true _ _ (le-leb a (map .low-mem) last)
+  in-low-mem a last = if-true _ _ (le-leb a (map .«low_mem») last)
 
-  pub in-low-shadow : (a : ℕ) → map .low-mem < a → a ≤ map .low-shadow → region map a ≡ LowShadow
+  pub in-low-shadow : (a : ℕ) → map .«low_mem» < a → a ≤ map .«low_shadow» → region map a ≡ LowShadow
   unfolding region
-  in-low-shadow a first last = if-false _ _ (lt-leb a (map .low-mem) first) ∙ if-true _ _ (le-leb a (map .low-shadow) last)
+  in-low-shadow a first last = if-false _ _ (lt-leb a (map .«low_mem») first) ∙ if-true _ _ (le-leb a (map .«low_shadow») last)
 
-  pub in-gap : (a : ℕ) → map .low-shadow < a → a ≤ map .shadow-gap → region map a ≡ ShadowGap
+  pub in-gap : (a : ℕ) → map .«low_shadow» < a → a ≤ map .«shadow_gap» → region map a ≡ ShadowGap
   unfolding region
   in-gap a first last =
-      if-false _ _ (lt-leb a (map .low-mem) (omega (arith, p .low)))
-      ∙ if-false _ _ (lt-leb a (map .low-shadow) first)
-      ∙ if-true _ _ (le-leb a (map .shadow-gap) last)
+      if-false _ _ (lt-leb a (map .«low_mem») (omega (arith, p .low)))
+      ∙ if-false _ _ (lt-leb a (map .«low_shadow») first)
+      ∙ if-true _ _ (le-leb a (map .«shadow_gap») last)
 
-  pub in-high-shadow : (a : ℕ) → map .shadow-gap < a → a ≤ map .high-shadow → region map a ≡ HighShadow
+  pub in-high-shadow : (a : ℕ) → map .«shadow_gap» < a → a ≤ map .«high_shadow» → region map a ≡ HighShadow
   unfolding region
   in-high-shadow a first last =
-      if-false _ _ (lt-leb a (map .low-mem) (omega (arith, p .low, p .gap)))
-      ∙ if-false _ _ (lt-leb a (map .low-shadow) (omega (arith, p .gap)))
-      ∙ if-false _ _ (lt-leb a (map .shadow-gap) first)
-      ∙ if-true _ _ (le-leb a (map .high-shadow) last)
+      if-false _ _ (lt-leb a (map .«low_mem») (omega (arith, p .low, p .gap)))
+      ∙ if-false _ _ (lt-leb a (map .«low_shadow») (omega (arith, p .gap)))
+      ∙ if-false _ _ (lt-leb a (map .«shadow_gap») first)
+      ∙ if-true _ _ (le-leb a (map .«high_shadow») last)
 
-  pub in-high-mem : (a : ℕ) → map .high-shadow < a → a ≤ map .high-mem → region map a ≡ HighMem
+  pub in-high-mem : (a : ℕ) → map .«high_shadow» < a → a ≤ map .«high_mem» → region map a ≡ HighMem
   unfolding region
   in-high-mem a first last =
-      if-false _ _ (lt-leb a (map .low-mem) (omega (arith, p .low, p .gap, p .shadow)))
-      ∙ if-false _ _ (lt-leb a (map .low-shadow) (omega (arith, p .gap, p .shadow)))
-      ∙ if-false _ _ (lt-leb a (map .shadow-gap) (omega (arith, p .shadow)))
-      ∙ if-false _ _ (lt-leb a (map .high-shadow) first)
-      ∙ if-true _ _ (le-leb a (map .high-mem) last)
+      if-false _ _ (lt-leb a (map .«low_mem») (omega (arith, p .low, p .gap, p .shadow)))
+      ∙ if-false _ _ (lt-leb a (map .«low_shadow») (omega (arith, p .gap, p .shadow)))
+      ∙ if-false _ _ (lt-leb a (map .«shadow_gap») (omega (arith, p .shadow)))
+      ∙ if-false _ _ (lt-leb a (map .«high_shadow») first)
+      ∙ if-true _ _ (le-leb a (map .«high_mem») last)
 
-  pub beyond : (a : ℕ) → map .high-mem < a → region map a ≡ Nowhere
+  pub beyond : (a : ℕ) → map .«high_mem» < a → region map a ≡ Nowhere
   unfolding region
   beyond a past =
-      if-false _ _ (lt-leb a (map .low-mem) (omega (arith, p .low, p .gap, p .shadow, p .high)))
-      ∙ if-false _ _ (lt-leb a (map .low-shadow) (omega (arith, p .gap, p .shadow, p .high)))
-      ∙ if-false _ _ (lt-leb a (map .shadow-gap) (omega (arith, p .shadow, p .high)))
-      ∙ if-false _ _ (lt-leb a (map .high-shadow) (omega (arith, p .high)))
-      ∙ if-false _ _ (lt-leb a (map .high-mem) past)
+      if-false _ _ (lt-leb a (map .«low_mem») (omega (arith, p .low, p .gap, p .shadow, p .high)))
+      ∙ if-false _ _ (lt-leb a (map .«low_shadow») (omega (arith, p .gap, p .shadow, p .high)))
+      ∙ if-false _ _ (lt-leb a (map .«shadow_gap») (omega (arith, p .shadow, p .high)))
+      ∙ if-false _ _ (lt-leb a (map .«high_shadow») (omega (arith, p .high)))
+      ∙ if-false _ _ (lt-leb a (map .«high_mem») past)
 
   -- low memory maps into low shadow, high into high
-  pub low-into-low : (a : ℕ) → a ≤ map .low-mem → region map (shadow-address map a) ≡ LowShadow
+  pub low-into-low : (a : ℕ) → a ≤ map .«low_mem» → region map (shadow-address map a) ≡ LowShadow
   unfolding shadow-address
   low-into-low a last =
       in-low-shadow (a / granule + map .offset) (omega (arith, p .low-shadow-first)) (omega (arith, p .low-shadow-last))
 
-  pub high-into-high : (a : ℕ) → map .high-shadow < a → a ≤ map .high-mem → region map (shadow-address map a) ≡ HighShadow
+  pub high-into-high : (a : ℕ) → map .«high_shadow» < a → a ≤ map .«high_mem» → region map (shadow-address map a) ≡ HighShadow
   unfolding shadow-address
   high-into-high a first last =
       in-high-shadow (a / granule + map .offset) (omega (arith, p .high-shadow-first)) (omega (arith, p .high-shadow-last))
 
   -- and any shadow address into the gap
-  pub low-shadow-into-gap : (a : ℕ) → map .low-mem < a → a ≤ map .low-shadow → region map (shadow-address map a) ≡ ShadowGap
+  pub low-shadow-into-gap : (a : ℕ) → map .«low_mem» < a → a ≤ map .«low_shadow» → region map (shadow-address map a) ≡ ShadowGap
   unfolding shadow-address
   low-shadow-into-gap a first last =
       in-gap (a / granule + map .offset) (omega (arith, p .gap-first)) (omega (arith, p .gap-last, p .gap, p .shadow))
 
-  pub high-shadow-into-gap : (a : ℕ) → map .shadow-gap < a → a ≤ map .high-shadow → region map (shadow-address map a) ≡ ShadowGap
+  pub high-shadow-into-gap : (a : ℕ) → map .«shadow_gap» < a → a ≤ map .«high_shadow» → region map (shadow-address map a) ≡ ShadowGap
   unfolding shadow-address
   high-shadow-into-gap a first last =
       in-gap (a / granule + map .offset) (omega (arith, p .gap-first, p .low, p .gap)) (omega (arith, p .gap-last))
@@ -113,12 +114,12 @@ map-call-at map a r e =
     ap (λ (s : Region). record { status = status (map-answer s); region = region-number s; shadow = map-shadow s (shadow-address map a) }) e
 
 -- 31 beyond the last address: no region, shadow address 0
-pub map-beyond : (map : Map) → Published map → (a : ℕ) → map .high-mem < a → map-call map a ≡ record { status = 31; region = 0; shadow = 0 }
+pub map-beyond : (map : Map) → Published map → (a : ℕ) → map .«high_mem» < a → map-call map a ≡ record { status = 31; region = 0; shadow = 0 }
 unfolding status in-numbers map-answer region-number map-shadow
 map-beyond map p a past = map-call-at map a Nowhere (beyond map p a past)
 
 -- 32 in the gap: the gap, shadow address 0
-pub map-gap : (map : Map) → Published map → (a : ℕ) → map .low-shadow < a → a ≤ map .shadow-gap
+pub map-gap : (map : Map) → Published map → (a : ℕ) → map .«low_shadow» < a → a ≤ map .«shadow_gap»
     → map-call map a ≡ record { status = 32; region = 3; shadow = 0 }
 unfolding status in-numbers map-answer region-number map-shadow
 map-gap map p a first last = map-call-at map a ShadowGap (in-gap map p a first last)

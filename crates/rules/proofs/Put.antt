@@ -5,7 +5,7 @@ use native.Mathlib.Omega.{arith}
 use mathlib.Core.Path.{_≡_, sym, ap, subst, _∙_}
 use mathlib.Core.List.{List, [], _++_, append-assoc}
 use lib.ListN.{length, getD, take, drop, replicate, length-append, length-drop, length-replicate, take-append-drop, getD-replicate, List·getD-append}
-use lib.Seq.{length-take-le, getD-append-add, getD-take, getD-drop, sets, sets-eq}
+use lib.Seq.{length-take-le, getD-append-add, getD-take, getD-drop, drop-drop, sets, sets-eq}
 use Rattle.rules.specs.Put.{put, fill}
 use Rattle.rules.proofs.Tests.{by-order}
 
@@ -25,6 +25,12 @@ length-put whole at part room =
 pub put-sets : (whole : List ℕ) (at : ℕ) (part : List ℕ) → at + length part ≤ length whole → put whole at part ≡ sets whole at part
 unfolding put
 put-sets whole at part room = sym (append-assoc (take at whole) part (drop (at + length part) whole)) ∙ sym (sets-eq part whole at room)
+
+-- a part that was lent, once it is back
+pub put-lent : (whole : List ℕ) (at n : ℕ) (part : List ℕ) → length part ≡ n → take at whole ++ (part ++ drop n (drop at whole)) ≡ put whole at part
+unfolding put
+put-lent whole at n part e =
+    ap (λ l. take at whole ++ (part ++ l)) (drop-drop n at whole ∙ ap (λ m. drop (at + m) whole) (sym e))
 
 pub put-in : (whole : List ℕ) (at : ℕ) (part : List ℕ) (k d : ℕ) → at ≤ length whole → k < length part
     → getD (put whole at part) (at + k) d ≡ getD part k d

@@ -22,7 +22,8 @@ use Rattle.rules.specs.Release.{row-at, release-row, release}
 use Rattle.rules.specs.Frames.{with-zero, frame}
 use Rattle.rules.specs.Feed.{of-verdict, access, act}
 use Rattle.rules.specs.Calls.{table-length, open-with, within-limits, fits-lent, grant-call, release-call, access-call, unfinished-call, feed}
-use Rattle.rules.specs.Maps.{Map, region, map-answer, map-call}
+use Rattle.rules.specs.declared.Map.{Map}
+use Rattle.rules.specs.Maps.{region, map-answer, map-call}
 use Rattle.rules.proofs.Tests.{by-found, by-order, by-test}
 use Rattle.rules.proofs.Shadow.{FirstBad, first-bad-some, verdict-none, verdict-some}
 use Rattle.rules.proofs.Grant.{by-grant}
@@ -236,18 +237,18 @@ only-24-feed session shadow table piece room e =
 
 module _ (map : Map) (p : Published map) (a : ℕ) where
   -- what a map answers, by the region
-  answer-map : (P : ℕ → Type 0) → (map .high-mem < a → P 31) → (map .low-shadow < a → a ≤ map .shadow-gap → P 32) → P 0 → P (map-call map a .status)
+  answer-map : (P : ℕ → Type 0) → (map .«high_mem» < a → P 31) → (map .«low_shadow» < a → a ≤ map .«shadow_gap» → P 32) → P 0 → P (map-call map a .status)
   unfolding status in-numbers map-answer
   answer-map P past gap done =
-      by-order (map .low-mem) a
+      by-order (map .«low_mem») a
       (λ above-low.
-      by-order (map .low-shadow) a
+      by-order (map .«low_shadow») a
       (λ above-shadow.
-      by-order (map .shadow-gap) a
+      by-order (map .«shadow_gap») a
       (λ above-gap.
-      by-order (map .high-shadow) a
+      by-order (map .«high_shadow») a
       (λ above-high.
-      by-order (map .high-mem) a
+      by-order (map .«high_mem») a
       (λ above-all. at (beyond map p a above-all) (past above-all))
       (λ in-high. at (in-high-mem map p a above-high in-high) done))
       (λ in-shadow. at (in-high-shadow map p a above-gap in-shadow) done))
@@ -258,10 +259,10 @@ module _ (map : Map) (p : Published map) (a : ℕ) where
       at : {r : Region} → region map a ≡ r → P (status (map-answer r)) → P (map-call map a .status)
       at {r} e x = subst (λ m. P (m .status)) (sym (map-call-at map a r e)) x
 
-  pub only-31 : map-call map a .status ≡ 31 → map .high-mem < a
-  only-31 = answer-map (λ n. n ≡ 31 → map .high-mem < a) (λ past e. past) (λ first last e. absurd (omega arith)) (λ e. absurd (omega arith))
+  pub only-31 : map-call map a .status ≡ 31 → map .«high_mem» < a
+  only-31 = answer-map (λ n. n ≡ 31 → map .«high_mem» < a) (λ past e. past) (λ first last e. absurd (omega arith)) (λ e. absurd (omega arith))
 
-  pub only-32 : map-call map a .status ≡ 32 → (map .low-shadow < a) × (a ≤ map .shadow-gap)
+  pub only-32 : map-call map a .status ≡ 32 → (map .«low_shadow» < a) × (a ≤ map .«shadow_gap»)
   only-32 =
-      answer-map (λ n. n ≡ 32 → (map .low-shadow < a) × (a ≤ map .shadow-gap))
+      answer-map (λ n. n ≡ 32 → (map .«low_shadow» < a) × (a ≤ map .«shadow_gap»))
       (λ past e. absurd (omega arith)) (λ first last e. (first, last)) (λ e. absurd (omega arith))

@@ -1,7 +1,8 @@
 -- The laws of a release: what the oldest is, what an eviction leaves, that evictions go on exactly while the weights are above Q,
 -- and that lengths stay. Assumes nothing.
-use Prim.Native.Nat.{ℕ, zero, suc, _+_, _-_, _*_, _≤_, _<_, zero-le}
+use Prim.Native.Nat.{ℕ, zero, suc, _+_, _-_, _*_, _^_, _≤_, _<_, zero-le}
 use native.Mathlib.Nat.{le-of-eq}
+use native.Mathlib.Numerals.{add-one}
 use native.Mathlib.Decide.{ℕ-discrete}
 use native.Mathlib.Omega.{arith}
 use mathlib.Core.Path.{_≡_, refl, sym, ap, ap₂, subst, _∙_}
@@ -13,9 +14,9 @@ use lib.ListN.{length, getD}
 use lib.Dec.{eqb}
 use borrow.Author.Tests.{eqb-true, eq-eqb, ne-eqb, lt-ltb, le-ltb}
 use Rattle.rules.specs.declared.Answer.the-variants.{Done, NotHeld, Released}
-use Rattle.rules.specs.Limits.{granule, redzone-byte, released-byte, row-numbers, empty, live, quarantined}
+use Rattle.rules.specs.Limits.{granule, redzone-byte, released-byte, row-numbers, most-redzone, empty, live, quarantined}
 use Rattle.rules.specs.Lowest.{total}
-use Rattle.rules.specs.Table.{rows, column, start, size, state, turn, is-quarantined, put-row}
+use Rattle.rules.specs.Table.{rows, column, start, size, state, turn, is-quarantined, put-row, lessened}
 use Rattle.rules.specs.Grant.{Acted, kept, granules}
 use Rattle.rules.specs.Release.{starts-at, row-at, if-quarantined, in-quarantine, weight, weights, older, oldest, oldest-zero, oldest-here, oldest-other, Pool, paint-row, evict-row, evict-oldest, and-one-more, settle-in, settle, quarantine-row, release-row, release}
 use Rattle.rules.proofs.Tests.{by-found, by-order, by-test, if-false, if-true}
@@ -105,6 +106,53 @@ oldest-some table (suc n) i e =
       first = o .first;
     })
 
+-- no second row fits
+pub oldest-is : (table : List ℕ) (n i : ℕ) → Oldest table n i → oldest table n ≡ some i
+oldest-is table n i o =
+    by-found (oldest table n)
+    (λ k e.
+    let p : Oldest table n k = oldest-some table n k e in
+    let up : k < i → ⊥ = λ less. omega (arith, o .first k less (p .held), p .least i (o .below) (o .held)) in
+    let down : i < k → ⊥ = λ less. omega (arith, p .first i less (o .held), o .least k (p .below) (p .held)) in
+    e ∙ ap some (omega arith))
+    (λ e. absurd (true≢false (sym (o .held) ∙ oldest-none table n e i (o .below))))
+
+-- it goes by the states and turns of those rows alone
+pub oldest-same : (table other : List ℕ) (n : ℕ) → ((j : ℕ) → j < n → (state table j ≡ state other j) × (turn table j ≡ turn other j))
+    → oldest table n ≡ oldest other n
+oldest-same table other n same =
+    by-found (oldest table n)
+    (λ i e.
+    let o : Oldest table n i = oldest-some table n i e in
+    let as-held : (j : ℕ) → j < n → is-quarantined other j ≡ true → is-quarantined table j ≡ true =
+    λ j b q. ap (λ s. eqb s quarantined) (same j b .0) ∙ q in
+    e
+    ∙ sym
+    (oldest-is other n i
+    (record {
+      below = o .below;
+      held = ap (λ s. eqb s quarantined) (sym (same i (o .below) .0)) ∙ o .held;
+      least = λ j b q. omega (arith, o .least j b (as-held j b q), same i (o .below) .1, same j b .1);
+      first = λ j b q. let c : j < n = omega (arith, o .below) in omega (arith, o .first j b (as-held j c q), same i (o .below) .1, same j c .1);
+    })))
+    (λ e.
+    e
+    ∙ sym
+    (by-found (oldest other n)
+    (λ i f.
+    let o : Oldest other n i = oldest-some other n i f in
+    absurd (true≢false (sym (ap (λ s. eqb s quarantined) (same i (o .below) .0) ∙ o .held) ∙ oldest-none table n e i (o .below))))
+    (λ f. f)))
+
+-- lessening one row more does not change which of the rows before it is the oldest
+pub oldest-lessened : (table : List ℕ) (n : ℕ) → n < rows table → oldest (lessened table n) n ≡ oldest (lessened table (suc n)) n
+oldest-lessened table n below =
+    oldest-same (lessened table n) (lessened table (suc n)) n
+    (λ j b. (
+      column-lessened table n 2 j (omega arith) ∙ sym (column-lessened table (suc n) 2 j (omega arith)),
+      turn-lessened table n j (omega arith) b ∙ sym (turn-lessened table (suc n) j below (omega arith)),
+    ))
+
 -- ---- an eviction
 
 four-zeros : (k : ℕ) → getD {A = ℕ} (0 ∷ 0 ∷ 0 ∷ 0 ∷ []) k 0 ≡ 0
@@ -128,6 +176,22 @@ pub if-quarantined-same : (table other : List ℕ) (f g : ℕ → ℕ) (i : ℕ)
     → if-quarantined table f i ≡ if-quarantined other g i
 unfolding if-quarantined
 if-quarantined-same table other f g i states numbers = ap₂ {C = ℕ} (λ (s n : ℕ). elim (eqb s quarantined) as (λ _. ℕ) [ true ↦ n | false ↦ 0 ]) states numbers
+
+-- what is summed over the quarantined rows of a table, by their sizes: their number and their weights
+abbrev part-quarantined : (ℕ → ℕ) → List ℕ → ℕ → ℕ
+part-quarantined f table = if-quarantined table (λ j. f (size table j))
+
+abbrev sum-quarantined : (ℕ → ℕ) → List ℕ → ℕ
+sum-quarantined f table = total (part-quarantined f table) (rows table)
+
+-- two tables that differ at one row
+sum-change : (f : ℕ → ℕ) (table other : List ℕ) (i : ℕ) → i < rows table → rows table ≡ rows other
+    → ((j : ℕ) → j ≢ i → (state table j ≡ state other j) × (size table j ≡ size other j))
+    → sum-quarantined f table + part-quarantined f other i ≡ sum-quarantined f other + part-quarantined f table i
+sum-change f table other i below same-rows same =
+    total-change (part-quarantined f table) (part-quarantined f other) (rows table) i below
+    (λ j other·. if-quarantined-same table other (λ k. f (size table k)) (λ k. f (size other k)) j (same j other· .0) (ap f (same j other· .1)))
+    ∙ ap (λ n. total (part-quarantined f other) n + part-quarantined f table i) same-rows
 
 module _ (pool : Pool) (i : ℕ) (below : i < rows (pool .table)) where
   pub evict-row-length : length (evict-row pool i .table) ≡ length (pool .table)
@@ -169,21 +233,30 @@ module _ (pool : Pool) (i : ℕ) (below : i < rows (pool .table)) where
       (le-of-eq (sym (rows-same (put-row (pool .table) i 0 0 empty 0) (pool .table) (length-put-row (pool .table) i 0 0 empty 0 below)))) below
       ∙ ap (λ t. t - 1) (column-put-row (pool .table) i 0 0 empty 0 below 3 (omega arith))
 
+  -- of what is summed over the quarantined rows, its own part is gone
+  pub evict-row-sum : (f : ℕ → ℕ) → is-quarantined (pool .table) i ≡ true
+      → sum-quarantined f (pool .table) ≡ sum-quarantined f (evict-row pool i .table) + f (size (pool .table) i)
+  evict-row-sum f held =
+      let table : List ℕ = pool .table in
+      let other : List ℕ = evict-row pool i .table in
+      let change : sum-quarantined f table + part-quarantined f other i ≡ sum-quarantined f other + part-quarantined f table i =
+      sum-change f table other i below (sym evict-row-rows)
+      (λ j other·. (sym (evict-row-other 2 j (omega arith) other·), sym (evict-row-other 1 j (omega arith) other·))) in
+      let own : part-quarantined f table i ≡ f (size table i) = if-quarantined-yes table (λ j. f (size table j)) i held in
+      let none· : part-quarantined f other i ≡ 0 =
+      if-quarantined-no other (λ j. f (size other j)) i (ne-eqb (state other i) quarantined (λ e. absurd (omega (arith, evict-row-empty 2 (omega arith))))) in
+      omega arith
+
   -- one fewer is quarantined
   pub evict-row-count : is-quarantined (pool .table) i ≡ true → in-quarantine (pool .table) ≡ suc (in-quarantine (evict-row pool i .table))
   unfolding in-quarantine
-  evict-row-count held =
-      let n : ℕ = rows (pool .table) in
-      let f : ℕ → ℕ = if-quarantined (pool .table) (λ _. 1) in
-      let g : ℕ → ℕ = if-quarantined (evict-row pool i .table) (λ _. 1) in
-      let change : total f n + g i ≡ total g n + f i =
-      total-change f g n i below
-      (λ j other. sym (if-quarantined-same (evict-row pool i .table) (pool .table) (λ _. 1) (λ _. 1) j (evict-row-other 2 j (omega arith) other) refl)) in
-      let one : f i ≡ 1 = if-quarantined-yes (pool .table) (λ _. 1) i held in
-      let none· : g i ≡ 0 =
-      if-quarantined-no (evict-row pool i .table) (λ _. 1) i (ne-eqb (state (evict-row pool i .table) i) quarantined (λ e. absurd (omega (arith, evict-row-empty 2 (omega arith))))) in
-      let same : total g (rows (evict-row pool i .table)) ≡ total g n = ap (total g) evict-row-rows in
-      omega arith
+  evict-row-count held = evict-row-sum (λ _. 1) held ∙ add-one (sum-quarantined (λ _. 1) (evict-row pool i .table))
+
+  -- and the weights are less by its own
+  pub evict-row-weights : (R : ℕ) → is-quarantined (pool .table) i ≡ true
+      → weights R (pool .table) ≡ weights R (evict-row pool i .table) + weight R (size (pool .table) i)
+  unfolding weights
+  evict-row-weights R held = evict-row-sum (weight R) held
 
 pub paint-row-length : (pool : Pool) (i v : ℕ) → length (paint-row pool i v) ≡ length (pool .shadow)
 unfolding paint-row
@@ -304,15 +377,21 @@ settle-count R Q =
     subst (λ s. s .evicted + in-quarantine (s .pool .table) ≡ in-quarantine (pool .table)) (sym (settle-more R Q pool heavy))
     (omega (arith, evict-oldest-count R Q pool heavy)))
 
+-- a sum over the quarantined ones of n rows is at most so much for each row
+pub quarantined-most : (f : ℕ → ℕ) (m : ℕ) (table : List ℕ) (n : ℕ) → ((j : ℕ) → j < n → f (size table j) ≤ m)
+    → total (if-quarantined table (λ j. f (size table j))) n ≤ n * m
+quarantined-most f m table n most =
+    total-most (part-quarantined f table) m n
+    (λ j below.
+    by-test (is-quarantined table j)
+    (λ held. omega (arith, if-quarantined-yes table (λ k. f (size table k)) j held, most j below))
+    (λ other. omega (arith, if-quarantined-no table (λ k. f (size table k)) j other)))
+
 -- so it is at most the number of rows
 pub in-quarantine-most : (table : List ℕ) → in-quarantine table ≤ rows table
 unfolding in-quarantine
 in-quarantine-most table =
-    total-most (if-quarantined table (λ _. 1)) (rows table)
-    (λ j below.
-    by-test (is-quarantined table j)
-    (λ held. le-of-eq (if-quarantined-yes table (λ _. 1) j held))
-    (λ other. omega (arith, if-quarantined-no table (λ _. 1) j other)))
+    omega (arith, quarantined-most (λ _. 1) 1 table (rows table) (λ j below. omega arith))
 
 pub evicted-most : (R Q : ℕ) (pool : Pool) → settle R Q pool .evicted ≤ rows (pool .table)
 evicted-most R Q pool = omega (arith, settle-count R Q pool, in-quarantine-most (pool .table))
@@ -321,6 +400,14 @@ evicted-most R Q pool = omega (arith, settle-count R Q pool, in-quarantine-most 
 pub weight-size : (R s : ℕ) → weight R s ≡ s
 unfolding weight
 weight-size R s = refl
+
+-- which leaves room in 64 bits for the weights of every row
+pub weight-most : (R s : ℕ) → R ≤ most-redzone → s < 2 ^ 32 → weight R s ≤ 2 ^ 33
+weight-most R s near fits = omega (arith, weight-size R s)
+
+pub weights-most : (R : ℕ) (table : List ℕ) → R ≤ most-redzone → ((j : ℕ) → size table j < 2 ^ 32) → weights R table ≤ rows table * 2 ^ 33
+unfolding weights
+weights-most R table near fits = quarantined-most (weight R) (2 ^ 33) table (rows table) (λ j below. weight-most R (size table j) near (fits j))
 
 -- so a block heavier than Q leaves at once
 pub none-heavier : (R Q : ℕ) (pool : Pool) (i : ℕ) → i < rows (settle R Q pool .pool .table)
@@ -349,6 +436,100 @@ module _ (pool : Pool) (i : ℕ) (below : i < rows (pool .table)) where
   unfolding quarantine-row
   quarantine-row-other k j in-row other =
       column-put-row-other (pool .table) i (start (pool .table) i) (size (pool .table) i) quarantined (in-quarantine (pool .table) + 1) below k j in-row other
+
+  -- of what is summed over the quarantined rows, its own part is added where it was not quarantined
+  pub quarantine-row-sum : (f : ℕ → ℕ) → is-quarantined (pool .table) i ≡ false
+      → sum-quarantined f (quarantine-row pool i .table) ≡ sum-quarantined f (pool .table) + f (size (pool .table) i)
+  quarantine-row-sum f other =
+      let table : List ℕ = pool .table in
+      let held : List ℕ = quarantine-row pool i .table in
+      let change : sum-quarantined f table + part-quarantined f held i ≡ sum-quarantined f held + part-quarantined f table i =
+      sum-change f table held i below (rows-same table held (sym (quarantine-row-lengths .1)))
+      (λ j other·. (sym (quarantine-row-other 2 j (omega arith) other·), sym (quarantine-row-other 1 j (omega arith) other·))) in
+      let own : part-quarantined f held i ≡ f (size held i) =
+      if-quarantined-yes held (λ j. f (size held j)) i (eq-eqb (state held i) quarantined (quarantine-row-own 2 (omega arith))) in
+      let size-kept : f (size held i) ≡ f (size table i) = ap f (quarantine-row-own 1 (omega arith)) in
+      let none· : part-quarantined f table i ≡ 0 = if-quarantined-no table (λ j. f (size table j)) i other in
+      omega arith
+
+  pub quarantine-row-weights : (R : ℕ) → is-quarantined (pool .table) i ≡ false
+      → weights R (quarantine-row pool i .table) ≡ weights R (pool .table) + weight R (size (pool .table) i)
+  unfolding weights
+  quarantine-row-weights R other = quarantine-row-sum (weight R) other
+
+  -- what is quarantined besides it was so before, and its turn is as it was
+  quarantined-before : (j : ℕ) → j ≢ i → is-quarantined (quarantine-row pool i .table) j ≡ true
+      → (is-quarantined (pool .table) j ≡ true) × (turn (quarantine-row pool i .table) j ≡ turn (pool .table) j)
+  quarantined-before j other held =
+      (ap (λ s. eqb s quarantined) (sym (quarantine-row-other 2 j (omega arith) other)) ∙ held, quarantine-row-other 3 j (omega arith) other)
+
+  own-held : is-quarantined (quarantine-row pool i .table) i ≡ true
+  own-held = eq-eqb (state (quarantine-row pool i .table) i) quarantined (quarantine-row-own 2 (omega arith))
+
+  -- by the row: itself, or another
+  each-row : (P : ℕ → Type 0) → P i → ((j : ℕ) → j ≢ i → P j) → (j : ℕ) → P j
+  each-row P own others j = elim (ℕ-discrete j i) [ yes e ↦ subst P (sym e) own | no other ↦ others j other ]
+
+  -- where nothing else is quarantined it is the oldest
+  pub quarantine-row-alone : oldest (pool .table) (rows (pool .table)) ≡ none
+      → oldest (quarantine-row pool i .table) (rows (pool .table)) ≡ some i
+  quarantine-row-alone nothing =
+      let held : List ℕ = quarantine-row pool i .table in
+      let no-other : (j : ℕ) → j < rows (pool .table) → j ≢ i → is-quarantined held j ≡ true → ⊥ =
+      λ j b other q. true≢false (sym (quarantined-before j other q .0) ∙ oldest-none (pool .table) (rows (pool .table)) nothing j b) in
+      oldest-is held (rows (pool .table)) i
+      (record {
+        below = below;
+        held = own-held;
+        least = each-row (λ j. j < rows (pool .table) → is-quarantined held j ≡ true → turn held i ≤ turn held j) (λ b q. omega arith) (λ j other b q. absurd (no-other j b other q));
+        first = λ j b q. absurd (no-other j (omega arith) (λ e. absurd (omega arith)) q);
+      })
+
+  module _ (k : ℕ) (e : oldest (pool .table) (rows (pool .table)) ≡ some k) where
+    o : Oldest (pool .table) (rows (pool .table)) k
+    o = oldest-some (pool .table) (rows (pool .table)) k e
+
+    -- where its turn is lower, or equal and it is the lower row, it is the oldest
+    pub quarantine-row-oldest : k ≢ i → turn (quarantine-row pool i .table) i ≤ turn (pool .table) k
+        → (k < i → turn (quarantine-row pool i .table) i < turn (pool .table) k)
+        → oldest (quarantine-row pool i .table) (rows (pool .table)) ≡ some i
+    quarantine-row-oldest apart lower strict =
+        let held : List ℕ = quarantine-row pool i .table in
+        oldest-is held (rows (pool .table)) i
+        (record {
+          below = below;
+          held = own-held;
+          least =
+              each-row (λ j. j < rows (pool .table) → is-quarantined held j ≡ true → turn held i ≤ turn held j) (λ b q. omega arith)
+              (λ j other b q. omega (arith, quarantined-before j other q .1, o .least j b (quarantined-before j other q .0)));
+          first =
+              λ j b q.
+              let other : j ≢ i = λ same. absurd (omega arith) in
+              let q′ : is-quarantined (pool .table) j ≡ true = quarantined-before j other q .0 in
+              let same : turn held j ≡ turn (pool .table) j = quarantined-before j other q .1 in
+              by-order k i
+              (λ less. omega (arith, strict less, o .least j (omega arith) q′))
+              (λ more. let above : i < k = omega arith in omega (arith, o .first j (omega arith) q′));
+        })
+
+    -- and else the one that was stays so
+    pub quarantine-row-younger : k ≢ i → turn (pool .table) k ≤ turn (quarantine-row pool i .table) i
+        → (i < k → turn (pool .table) k < turn (quarantine-row pool i .table) i)
+        → oldest (quarantine-row pool i .table) (rows (pool .table)) ≡ some k
+    quarantine-row-younger apart lower strict =
+        let held : List ℕ = quarantine-row pool i .table in
+        let kept· : turn held k ≡ turn (pool .table) k = quarantine-row-other 3 k (omega arith) apart in
+        oldest-is held (rows (pool .table)) k
+        (record {
+          below = o .below;
+          held = ap (λ s. eqb s quarantined) (quarantine-row-other 2 k (omega arith) apart) ∙ o .held;
+          least =
+              each-row (λ j. j < rows (pool .table) → is-quarantined held j ≡ true → turn held k ≤ turn held j) (λ b q. omega arith)
+              (λ j other b q. omega (arith, quarantined-before j other q .1, o .least j b (quarantined-before j other q .0)));
+          first =
+              each-row (λ j. j < k → is-quarantined held j ≡ true → turn held k < turn held j) (λ b q. omega (arith, strict b))
+              (λ j other b q. omega (arith, quarantined-before j other q .1, o .first j b (quarantined-before j other q .0)));
+        })
 
 -- ---- the row that starts at an address
 

@@ -14,7 +14,7 @@ use Rattle.rules.specs.declared.Verdict.{Verdict}
 use Rattle.rules.specs.declared.Verdict.the-variants.{Good, Bad}
 use Rattle.rules.specs.Limits.{granule, most-granules, outside}
 use Rattle.rules.specs.Shadow.{leading, signed, negative, inside, shadow-of, addressable, kind, first-bad, judge}
-use Rattle.rules.proofs.Tests.{by-found, by-order, if-false, if-true}
+use Rattle.rules.proofs.Tests.{by-found, by-order, by-test, if-false, if-true}
 use Rattle.rules.proofs.Lowest.{Lowest, lowest-some, lowest-none, lowest-is, lowest-no}
 
 -- ---- the byte
@@ -41,7 +41,7 @@ signed-below : (v : ℕ) → v < 128 → signed v ≡ pos v
 unfolding signed
 signed-below v below = rw (lt-ltb v 128 below)
 
-signed-from : (v : ℕ) → 128 ≤ v → signed v ≡ negsuc (256 - suc v)
+pub signed-from : (v : ℕ) → 128 ≤ v → signed v ≡ negsuc (256 - suc v)
 unfolding signed
 signed-from v from = rw (le-ltb v 128 from)
 
@@ -59,6 +59,16 @@ pub negative-poisoned : (v : ℕ) → negative v ≡ true → leading v ≡ 0
 negative-poisoned v is-negative =
     leading-none v
     (by-order v 128 (λ less. absurd (true≢false (sym is-negative ∙ negative-below v less))) (λ more. omega arith))
+
+-- and of every byte but 08 to 7f, exactly that
+pub poisoned-negative : (v : ℕ) → (8 ≤ v → 128 ≤ v) → leading v ≡ 0 → negative v ≡ true
+poisoned-negative v written none· =
+    by-order v 8
+    (λ small.
+    by-order 0 v
+    (λ above. absurd (omega (arith, leading-first v above small)))
+    (λ zero·. let all : v ≡ 0 = omega arith in absurd (omega (arith, ap leading all, leading-all))))
+    (λ large. negative-from v (written large))
 
 -- 08 to 7f: no byte is addressable
 pub unwritten-poisoned : (v : ℕ) → 8 ≤ v → v < 128 → leading v ≡ 0
@@ -96,6 +106,19 @@ unfolding addressable inside
 addressable-is shadow a in-arena in-leading =
     and-eq-true-iff (inside shadow a) (ltb (a % granule) (leading (shadow-of shadow a))) .1
     (lt-ltb a (granule * length shadow) in-arena, lt-ltb (a % granule) (leading (shadow-of shadow a)) in-leading)
+
+-- no byte outside the arena is addressable, nor one past its granule's leading bytes
+pub not-inside : (shadow : List ℕ) (a : ℕ) → granule * length shadow ≤ a → addressable shadow a ≡ false
+not-inside shadow a beyond =
+    by-test (addressable shadow a)
+    (λ good. absurd (omega (arith, addressable-inside shadow a good)))
+    (λ bad. bad)
+
+pub not-leading : (shadow : List ℕ) (a : ℕ) → leading (shadow-of shadow a) ≤ a % granule → addressable shadow a ≡ false
+not-leading shadow a past =
+    by-test (addressable shadow a)
+    (λ good. absurd (omega (arith, addressable-leading shadow a good)))
+    (λ bad. bad)
 
 -- ---- the kind of a bad byte
 

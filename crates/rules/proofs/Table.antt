@@ -10,7 +10,7 @@ use lib.Seq.{getD-set-same, getD-set-other}
 use Rattle.rules.specs.Limits.{row-numbers}
 use Rattle.rules.specs.Table.{rows, column, turn, put-row, lessened, lessened-zero, lessened-suc}
 use Rattle.rules.proofs.Tests.{by-order}
-use Rattle.rules.proofs.Put.{length-put, put-in, put-before, put-after}
+use Rattle.rules.proofs.Put.{length-put, put-sets, put-in, put-before, put-after}
 
 -- the numbers of a row lie in the table
 pub in-table : (table : List ℕ) (i : ℕ) → i < rows table → row-numbers * i + row-numbers ≤ length table
@@ -27,12 +27,31 @@ pub rows-same : (table other : List ℕ) → length table ≡ length other → r
 unfolding rows
 rows-same table other e = ap (λ n. n / row-numbers) e
 
+pub below-same : (table other : List ℕ) (i : ℕ) → length other ≡ length table → i < rows table → i < rows other
+below-same table other i e below = omega (arith, rows-same other table e)
+
 -- ---- a row that is put
 
 module _ (table : List ℕ) (i start size state turn : ℕ) (below : i < rows table) where
   pub length-put-row : length (put-row table i start size state turn) ≡ length table
   unfolding put-row
   length-put-row = length-put table (row-numbers * i) (start ∷ size ∷ state ∷ turn ∷ []) (in-table table i below)
+
+  -- four stores
+  pub put-row-stores : put-row table i start size state turn
+      ≡ set (set (set (set table (row-numbers * i + 0) start) (row-numbers * i + 1) size) (row-numbers * i + 2) state) (row-numbers * i + 3) turn
+  unfolding put-row
+  put-row-stores =
+      let at : ℕ = row-numbers * i in
+      let first : at ≡ at + 0 = omega arith in
+      let second : suc at ≡ at + 1 = omega arith in
+      let third : suc (suc at) ≡ at + 2 = omega arith in
+      let fourth : suc (suc (suc at)) ≡ at + 3 = omega arith in
+      put-sets table at (start ∷ size ∷ state ∷ turn ∷ []) (in-table table i below)
+      ∙ ap (λ k. set (set (set (set table k start) (suc at) size) (suc (suc at)) state) (suc (suc (suc at))) turn) first
+      ∙ ap (λ k. set (set (set (set table (at + 0) start) k size) (suc (suc at)) state) (suc (suc (suc at))) turn) second
+      ∙ ap (λ k. set (set (set (set table (at + 0) start) (at + 1) size) k state) (suc (suc (suc at))) turn) third
+      ∙ ap (λ k. set (set (set (set table (at + 0) start) (at + 1) size) (at + 2) state) k turn) fourth
 
   pub column-put-row : (k : ℕ) → k < row-numbers → column k (put-row table i start size state turn) i ≡ getD (start ∷ size ∷ state ∷ turn ∷ []) k 0
   unfolding put-row column

@@ -10,7 +10,7 @@ use Rattle.rules.specs.declared.Answer.{Answer}
 use Rattle.rules.specs.declared.Answer.the-variants.{BadLine, BadKind, NotZero}
 use Rattle.rules.specs.declared.Frame.{Frame}
 use Rattle.rules.specs.declared.Frame.the-variants.{Grant, Release, Read, Write, Refused}
-use Rattle.rules.specs.Limits.{between, frame-digits, line-feed, kind-grant, kind-release, kind-read, kind-write}
+use Rattle.rules.specs.Limits.{between, frame-digits, line-feed, no-digit, kind-grant, kind-release, kind-read, kind-write}
 use Rattle.rules.specs.Answers.{in-numbers}
 
 -- ---- frames in
@@ -26,6 +26,10 @@ hex-digit b =
             | false ↦ elim (between 0x41 0x46 b) [ true ↦ some (b - 0x41 + 10) | false ↦ none ]
           ]
     ]
+
+-- the same as one number, with a mark for none
+unfoldable pub digit-value : ℕ → ℕ
+digit-value b = elim (hex-digit b) [ some d ↦ d | none ↦ no-digit ]
 
 -- digits read on from a number that is already read, the highest digit first
 unfoldable pub number-on : ℕ → List ℕ → Option ℕ

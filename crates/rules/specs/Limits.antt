@@ -46,6 +46,10 @@ too-long = 19
 abbrev pub line-feed : ℕ
 line-feed = 0x0a
 
+-- what stands for the value of a byte that is no hex digit
+abbrev pub no-digit : ℕ
+no-digit = 16
+
 -- an answer is 13 bytes, its line feed included
 abbrev pub answer-bytes : ℕ
 answer-bytes = 13
@@ -109,4 +113,5 @@ paper-limits = record {
   «released_byte» = released-byte;
   outside = outside;
   «line_feed» = line-feed;
+  «no_digit» = no-digit;
 }

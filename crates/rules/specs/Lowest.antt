@@ -5,8 +5,10 @@ use mathlib.Core.Path.{_≡_, refl}
 use mathlib.Core.Bool.{Bool, true, false, not}
 use mathlib.Core.Option.{Option, none, some}
 use mathlib.Core.List.{List}
-use lib.ListN.{getD}
+use lib.ListN.{length, getD}
 use lib.Dec.{eqb}
+use Rattle.rules.specs.declared.Found.{Found}
+use Rattle.rules.specs.declared.Found.the-variants.{One, Nothing}
 
 -- the lowest of the n numbers i, i + 1, .. that passes the test
 unfoldable pub lowest : (ℕ → Bool) → ℕ → ℕ → Option ℕ
@@ -18,9 +20,18 @@ abbrev pub found {ℓ} : {A : Type ℓ} → Option A → Bool
 found none = false
 found (some a) = true
 
+-- what was found, as the code's searches answer
+abbrev pub answered : Option ℕ → Found
+answered none = Nothing
+answered (some k) = One k
+
 -- the n numbers of a list from place i on all equal v: given up at the first that does not
 unfoldable pub all-equal : List ℕ → ℕ → ℕ → ℕ → Bool
 all-equal list v i n = not (found (lowest (λ k. not (eqb (getD list k 0) v)) n i))
+
+-- a table's rule, as one test over all of its entries: each is what the rule says of its place
+abbrev pub every-entry : List ℕ → (ℕ → ℕ) → Bool
+every-entry table rule = not (found (lowest (λ k. not (eqb (getD table k 0) (rule k))) (length table) 0))
 
 -- f 0 + f 1 + .. + f (n - 1)
 unfoldable pub total : (ℕ → ℕ) → ℕ → ℕ

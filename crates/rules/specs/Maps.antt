@@ -6,37 +6,30 @@ use Rattle.rules.specs.declared.Answer.{Answer}
 use Rattle.rules.specs.declared.Answer.the-variants.{Done, BeyondMap, InGap}
 use Rattle.rules.specs.declared.Region.{Region}
 use Rattle.rules.specs.declared.Region.the-variants.{Nowhere, LowMem, LowShadow, ShadowGap, HighShadow, HighMem}
+use Rattle.rules.specs.declared.Map.{Map}
 use Rattle.rules.specs.declared.Mapped.{Mapped}
 use Rattle.rules.specs.Limits.{granule}
 use Rattle.rules.specs.Answers.{status}
 
--- a map: what is added to an address / 8, the last address of each region, in the regions' order
-pub record Map : Type 0 where
-  pub offset : ℕ
-  pub low-mem : ℕ
-  pub low-shadow : ℕ
-  pub shadow-gap : ℕ
-  pub high-shadow : ℕ
-  pub high-mem : ℕ
-
+-- the printed table, a column a map
 abbrev pub map32 : Map
 map32 = record {
   offset = 0x2000_0000;
-  low-mem = 0x1fff_ffff;
-  low-shadow = 0x23ff_ffff;
-  shadow-gap = 0x27ff_ffff;
-  high-shadow = 0x3fff_ffff;
-  high-mem = 0xffff_ffff;
+  «low_mem» = 0x1fff_ffff;
+  «low_shadow» = 0x23ff_ffff;
+  «shadow_gap» = 0x27ff_ffff;
+  «high_shadow» = 0x3fff_ffff;
+  «high_mem» = 0xffff_ffff;
 }
 
 abbrev pub map64 : Map
 map64 = record {
   offset = 0x7fff_8000;
-  low-mem = 0x7fff_7fff;
-  low-shadow = 0x8fff_6fff;
-  shadow-gap = 0x0200_8fff_6fff;
-  high-shadow = 0x1000_7fff_7fff;
-  high-mem = 0x7fff_ffff_ffff;
+  «low_mem» = 0x7fff_7fff;
+  «low_shadow» = 0x8fff_6fff;
+  «shadow_gap» = 0x0200_8fff_6fff;
+  «high_shadow» = 0x1000_7fff_7fff;
+  «high_mem» = 0x7fff_ffff_ffff;
 }
 
 -- shadow address = address / 8 rounded down, plus the offset
@@ -46,18 +39,18 @@ shadow-address map a = a / granule + map .offset
 -- the region that an address is in; none beyond the last address
 unfoldable pub region : Map → ℕ → Region
 region map a =
-    elim (leb a (map .low-mem)) [
+    elim (leb a (map .«low_mem»)) [
       | true ↦ LowMem
       | false ↦
-          elim (leb a (map .low-shadow)) [
+          elim (leb a (map .«low_shadow»)) [
             | true ↦ LowShadow
             | false ↦
-                elim (leb a (map .shadow-gap)) [
+                elim (leb a (map .«shadow_gap»)) [
                   | true ↦ ShadowGap
                   | false ↦
-                      elim (leb a (map .high-shadow)) [
+                      elim (leb a (map .«high_shadow»)) [
                         | true ↦ HighShadow
-                        | false ↦ elim (leb a (map .high-mem)) [ true ↦ HighMem | false ↦ Nowhere ]
+                        | false ↦ elim (leb a (map .«high_mem»)) [ true ↦ HighMem | false ↦ Nowhere ]
                       ]
                 ]
           ]

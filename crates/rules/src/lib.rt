@@ -57,6 +57,12 @@ pub struct Reply {
     pub value: u32,
 }
 
+// What a search finds: the one number that it looks for, or nothing where there is none.
+pub enum Found {
+    One(usize),
+    Nothing,
+}
+
 // What a range is found to be: good, or its first bad byte and the kind of that byte. The byte is
 // a whole number that does not wrap, so it has 64 bits.
 pub enum Verdict {
@@ -97,6 +103,17 @@ pub enum Region {
     ShadowGap,
     HighShadow,
     HighMem,
+}
+
+// A published map: what is added to an address / 8, and the last address of each region, in the
+// regions' order.
+pub struct Map {
+    pub offset: u64,
+    pub low_mem: u64,
+    pub low_shadow: u64,
+    pub shadow_gap: u64,
+    pub high_shadow: u64,
+    pub high_mem: u64,
 }
 
 // What a map hands back: the status 00, 31 or 32, the region's number, and the shadow address.

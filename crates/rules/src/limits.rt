@@ -57,6 +57,9 @@ pub const OUTSIDE: u8 = 0xff;
 
 pub const LINE_FEED: u8 = 0x0a;
 
+// What stands for the value of a byte that is no hex digit.
+pub const NO_DIGIT: u8 = 16;
+
 // All of the above in one value, so that one proof ties them to the definitions.
 pub struct Limits {
     pub granule: usize,
@@ -81,6 +84,7 @@ pub struct Limits {
     pub released_byte: u8,
     pub outside: u8,
     pub line_feed: u8,
+    pub no_digit: u8,
 }
 
 pub fn of_the_paper() -> Limits
@@ -109,5 +113,6 @@ pub fn of_the_paper() -> Limits
         released_byte: RELEASED_BYTE,
         outside: OUTSIDE,
         line_feed: LINE_FEED,
+        no_digit: NO_DIGIT,
     }
 }
