@@ -1,0 +1,165 @@
+// Reading and setting rows, and the one pass over them that a release makes for itself.
+use rules::Found;
+use rules::limits::EMPTY;
+use rules::limits::GRANULE;
+use rules::limits::LIVE;
+use rules::limits::QUARANTINED;
+use rules::limits::ROW_NUMBERS;
+ghost use mathlib.Core.Path.{_≡_};
+ghost use Prim.Native.Nat.{_+_, _*_, _<_};
+ghost use lib.ListN.{set};
+ghost use Rattle.rules.specs.Limits.{row-numbers};
+ghost use Rattle.rules.specs.Lowest.{answered};
+ghost use Rattle.rules.specs.Table.{rows, column, put-row};
+ghost use Rattle.rules.specs.Grant.{empty-row};
+ghost use Rattle.rules.specs.Release.{weight, oldest};
+ghost use Rattle.blocks.specs.Survey.{InRow, Lent, SoFar, OldestSoFar, first-of, surveyed, survey};
+
+// What one pass over the rows finds: the lowest live row that starts at an address, whether a
+// quarantined one does, how many are quarantined, what they weigh, and the one to evict.
+pub struct Seen {
+    pub live: Found,
+    pub again: bool,
+    pub count: usize,
+    pub weight: u64,
+    pub oldest: Found,
+}
+
+// The numbers of a row.
+pub const START: usize = 0;
+
+pub const SIZE: usize = 1;
+
+pub const STATE: usize = 2;
+
+pub const TURN: usize = 3;
+
+pub fn number(table: &[u32], row: usize, k: usize) -> u32
+    requires { ⌜ InRow (now table) row k ⌝ }
+    ensures { λ r. ⌜ r ≡ column k (now (table .entry)) row ⌝ }
+{
+    table[ROW_NUMBERS * row + k]
+}
+
+pub fn empty_row(table: &[u32]) -> Found
+    ensures { λ r. ⌜ r ≡ answered (empty-row (now (table .entry))) ⌝ }
+{
+    let rows = table.len() / ROW_NUMBERS;
+    let mut row = 0;
+    while row < rows {
+        if number(table, row, STATE) == EMPTY {
+            return Found::One(row);
+        }
+        row += 1;
+    }
+    Found::Nothing
+}
+
+pub fn set_number(table: &mut [u32], row: usize, k: usize, value: u32)
+    requires { ⌜ InRow (now table) row k ⌝ }
+    ensures { λ _. ⌜ now (table .exit) ≡ set (now (table .entry)) (row-numbers * row + k) value ⌝ }
+{
+    table[ROW_NUMBERS * row + k] = value;
+}
+
+pub fn put_row(table: &mut [u32], row: usize, start: u32, size: u32, state: u32, turn: u32)
+    requires { ⌜ row < rows (now table) ⌝ }
+    ensures { λ _. ⌜ now (table .exit) ≡ put-row (now (table .entry)) row start size state turn ⌝ }
+{
+    set_number(table, row, START, start);
+    set_number(table, row, SIZE, size);
+    set_number(table, row, STATE, state);
+    set_number(table, row, TURN, turn);
+}
+
+// What a quarantined block weighs.
+pub fn weight_of(redzone: usize, size: u32) -> u64
+    ensures { λ r. ⌜ r ≡ weight redzone size ⌝ }
+{
+    size as u64
+}
+
+// The lowest of the rows so far, or this one where it is the first that passes.
+fn first_of(before: Found, passes: bool, row: usize) -> Found
+    ensures { λ r. ⌜ r ≡ first-of before passes row ⌝ }
+{
+    match before {
+        Found::One(i) => Found::One(i),
+        Found::Nothing => {
+            if passes {
+                return Found::One(row);
+            }
+            Found::Nothing
+        }
+    }
+}
+
+// The row to evict, of the rows so far and this one: the lowest turn, on equal turns the lower row.
+pub fn oldest_with(table: &[u32], before: Found, row: usize) -> Found
+    requires { ⌜ OldestSoFar (now table) before row ⌝ }
+    ensures { λ r. ⌜ r ≡ answered (oldest (now (table .entry)) (row + 1)) ⌝ }
+{
+    if number(table, row, STATE) != QUARANTINED {
+        return before;
+    }
+    let Found::One(other) = before else {
+        return Found::One(row);
+    };
+    if number(table, row, TURN) < number(table, other, TURN) {
+        return Found::One(row);
+    }
+    Found::One(other)
+}
+
+// What was found in the rows before `row`, and in it.
+fn with_row(table: &[u32], redzone: usize, address: u32, row: usize, seen: Seen) -> Seen
+    requires { ⌜ SoFar redzone (now table) address row seen ⌝ }
+    ensures { λ r. ⌜ r ≡ surveyed redzone (now (table .entry)) address (row + 1) ⌝ }
+{
+    let at = GRANULE as u64 * number(table, row, START) as u64;
+    let here = at == address as u64;
+    let state = number(table, row, STATE);
+    let live = seen.live;
+    let oldest = seen.oldest;
+    if state == LIVE {
+        return Seen {
+            live: first_of(live, here, row),
+            again: seen.again,
+            count: seen.count,
+            weight: seen.weight,
+            oldest,
+        };
+    }
+    if state == QUARANTINED {
+        let count = seen.count + 1;
+        let weight = seen.weight + weight_of(redzone, number(table, row, SIZE));
+        return Seen {
+            live,
+            again: seen.again | here,
+            count,
+            weight,
+            oldest: oldest_with(table, oldest, row),
+        };
+    }
+    seen
+}
+
+pub fn survey(table: &[u32], redzone: usize, address: u32) -> Seen
+    requires { ⌜ Lent redzone (now table) ⌝ }
+    ensures { λ r. ⌜ r ≡ survey redzone (now (table .entry)) address ⌝ }
+{
+    let rows = table.len() / ROW_NUMBERS;
+    let mut seen = Seen {
+        live: Found::Nothing,
+        again: false,
+        count: 0,
+        weight: 0,
+        oldest: Found::Nothing,
+    };
+    let mut row = 0;
+    while row < rows {
+        seen = with_row(table, redzone, address, row, seen);
+        row += 1;
+    }
+    seen
+}
