@@ -1,0 +1,80 @@
+// Frames out: an answer in the paper's numbers, and in the report's 13 bytes.
+ghost use Prim.Native.Nat.{_<_};
+ghost use mathlib.Core.Path.{_≡_};
+ghost use lib.ListN.{length};
+ghost use Rattle.rules.specs.Limits.{answer-bytes};
+ghost use Rattle.rules.specs.Answers.{reply, in-numbers};
+ghost use Rattle.rules.specs.Frames.{digit, digits, answer-line};
+use rules::Answer;
+use rules::Reply;
+use rules::limits::LINE_FEED;
+
+fn reply(status: u8, kind: u8, value: u32) -> Reply
+    ensures { λ r. ⌜ r ≡ reply status kind value ⌝ }
+{
+    Reply {
+        status,
+        kind,
+        value,
+    }
+}
+
+// The paper's table, a row a case: number, kind, value.
+pub fn numbers_of(answer: Answer) -> Reply
+    ensures { λ r. ⌜ r ≡ in-numbers answer ⌝ }
+{
+    match answer {
+        Answer::Done { value } => reply(0, 0, value),
+        Answer::BadLine => reply(1, 0, 0),
+        Answer::BadKind => reply(2, 0, 0),
+        Answer::NotZero => reply(3, 0, 0),
+        Answer::NoRow => reply(5, 0, 0),
+        Answer::NoPlace => reply(6, 0, 0),
+        Answer::NotHeld => reply(7, 0, 0),
+        Answer::Released => reply(8, 0, 0),
+        Answer::NotGood { kind, first } => reply(9, kind, first),
+        Answer::BadShadowLength => reply(21, 0, 0),
+        Answer::BadRedzone => reply(22, 0, 0),
+        Answer::BadTableLength => reply(23, 0, 0),
+        Answer::BadSession => reply(24, 0, 0),
+        Answer::BeyondMap => reply(31, 0, 0),
+        Answer::InGap => reply(32, 0, 0),
+    }
+}
+
+// A digit below 16, in lower case.
+fn digit(value: u8) -> u8
+    requires { ⌜ value < 16 ⌝ }
+    ensures { λ r. ⌜ r ≡ digit value ⌝ }
+{
+    if value < 10 {
+        return 0x30 + value;
+    }
+    0x61 + (value - 10)
+}
+
+// As many of a number's lowest digits as the part is long, from the last of them to the first.
+fn put_digits(part: &mut [u8], number: u32)
+    ensures { λ _. ⌜ now (part .exit) ≡ digits (length (now (part .entry))) number ⌝ }
+{
+    let mut left = number;
+    let mut i = part.len();
+    while 0 < i {
+        i -= 1;
+        part[i] = digit((left % 16) as u8);
+        left /= 16;
+    }
+}
+
+// Status (2), kind (2), value (8), line feed.
+pub fn put_answer(part: &mut [u8], answer: Answer)
+    requires { ⌜ length (now part) ≡ answer-bytes ⌝ }
+    ensures { λ _. ⌜ now (part .exit) ≡ answer-line answer ⌝ }
+{
+    let reply = numbers_of(answer);
+    let value = reply.value;
+    put_digits(&mut part[0..2], reply.status as u32);
+    put_digits(&mut part[2..4], reply.kind as u32);
+    put_digits(&mut part[4..12], value);
+    part[12] = LINE_FEED;
+}
