@@ -1,6 +1,6 @@
 -- `blocks::quarantine::quarantine_row` meets its contract: the row is painted and set, its weight is added, and it is set against the
 -- oldest before it. Assumes nothing.
-use Prim.Native.Nat.{ℕ, _+_, _*_, _^_, _<_}
+use Prim.Native.Nat.{ℕ, _+_, _*_, _^_, _≤_, _<_}
 use native.Mathlib.Omega.{arith}
 use mathlib.Core.Path.{_≡_, sym, ap, ap₂, _∙_}
 use mathlib.Core.Bool.{false}
@@ -15,9 +15,9 @@ use Rattle.rules.specs.Grant.{granules}
 use Rattle.rules.specs.Release.{weight, weights, oldest, Pool, paint-row, quarantine-row}
 use Rattle.rules.proofs.Lowest.{answered-one}
 use Rattle.rules.proofs.Table.{below-same}
-use Rattle.rules.proofs.Release.{oldest-some, in-quarantine-most, weight-most, weights-most, quarantine-row-weights}
+use Rattle.rules.proofs.Release.{oldest-some, in-quarantine-most, weights-most, quarantine-row-weights}
 use Rattle.blocks.specs.Quarantine.{pool, first-to-leave}
-use Rattle.blocks.proofs.Survey.{rows-most}
+use Rattle.blocks.proofs.Survey.{rows-most, weights-fit}
 use Rattle.blocks.proofs.Entering.{entered-oldest}
 use Rattle.blocks.proofs.quarantine.quarantine_row.Statement.{statement}
 use Rattle.blocks.proofs.quarantine.quarantine_row.Tie as tie
@@ -48,18 +48,12 @@ add-weight c =
     let sized = weighed .before .before in
     let known = sized .before .before .before .before in
     let start = known .before .before in
-    let table = now (start .args .table) in
     let R = start .args .redzone in
+    let table = now (start .args .table) in
     let fits : (j : ℕ) → size table j < 2 ^ 32 = λ j. omega (arith, known .slice-known2 .given (row-numbers * j + 1)) in
-    omega (
-      arith,
-      start .pre .weight-is,
-      weights-most R table (start .pre .lent .near) fits,
-      rows-most (start .pre .lent),
-      weight-most R (size table (start .args .row)) (start .pre .lent .near) (fits (start .args .row)),
-      weighed .weight-of .ensures,
-      ap (weight R) (sized .number2 .ensures),
-    )
+    let so-far : start .args .seen .weight ≤ rows table * 2 ^ 33 = omega (arith, start .pre .weight-is, weights-most R table (start .pre .lent .near) fits) in
+    let one-more = weighed .weight-of .ensures ∙ ap (weight R) (sized .number2 .ensures) in
+    record { fits = weights-fit (rows table) (start .args .row) (start .args .seen .weight) (weighed .weight-of .result) (start .pre .lent) (omega arith) fits so-far one-more }
 
 row-requires : tie.Need-row-requires
 row-requires c κs = search needs

@@ -1,11 +1,12 @@
 -- `blocks::quarantine::release` meets its contract, by what its one pass over the rows found. Assumes nothing.
 use Prim.Native.Nat.{ℕ}
-use mathlib.Core.Path.{_≡_, sym, ap, _∙_}
-use mathlib.Core.Bool.{true, false, true≢false}
+use mathlib.Core.Path.{_≡_, refl, sym, ap, _∙_}
+use mathlib.Core.Bool.{true≢false}
 use mathlib.Core.Option.{Option, none, some}
 use denote.Ref.{now}
 use borrow.Author.Needs.{needs}
-use Rattle.rules.specs.declared.Answer.the-variants.{Done}
+use Rattle.rules.specs.declared.Answer.{Answer}
+use Rattle.rules.specs.declared.Answer.the-variants.{Done, NotHeld, Released}
 use Rattle.rules.specs.Limits.{live, quarantined}
 use Rattle.rules.specs.Lowest.{found}
 use Rattle.rules.specs.Grant.{kept}
@@ -55,37 +56,50 @@ live-some c =
     let surveyed = c .before .before in
     answered-one (live-row surveyed) (c .live .given .0 .0) (sym (c .live .given .1) ∙ ap (λ s. s .live) (surveyed .survey .ensures))
 
+-- and of the quarantined ones
+abbrev quarantined-row : tie.After-survey → Option ℕ
+quarantined-row c = row-at quarantined (now (start c .args .table)) (start c .args .address)
+
+again-is : (c : tie.After-survey) → c .survey .result .again ≡ found (quarantined-row c)
+unfolding survey
+again-is c = ap (λ s. s .again) (c .survey .ensures)
+
+-- at 07 and 08 nothing changes
+refused : (c : tie.After-enum-told) (answer : Answer)
+    → ((i : ℕ) → quarantined-row (c .before .before) ≡ some i → answer ≡ Released)
+    → (quarantined-row (c .before .before) ≡ none → answer ≡ NotHeld)
+    → kept answer (now (start (c .before .before) .args .shadow)) (now (start (c .before .before) .args .table))
+    ≡ release (start (c .before .before) .args .redzone) (start (c .before .before) .args .quarantine) (now (start (c .before .before) .args .shadow))
+    (now (start (c .before .before) .args .table)) (start (c .before .before) .args .address)
+refused c answer again never =
+    let surveyed = c .before .before in
+    let else = surveyed .before .before in
+    let from = start surveyed in
+    let shadow = now (from .args .shadow) in
+    let table = now (from .args .table) in
+    by-found (quarantined-row surveyed)
+    (λ i e.
+    ap (λ a. kept a shadow table) (again i e)
+    ∙ sym (release-twice (from .args .redzone) (from .args .quarantine) shadow table (from .args .address) i (else .if1 .left) (live-none c) e))
+    (λ e.
+    ap (λ a. kept a shadow table) (never e)
+    ∙ sym (release-foreign (from .args .redzone) (from .args .quarantine) shadow table (from .args .address) (else .if1 .left) (live-none c) e))
+
 same-length : tie.Need-same-length
 same-length c = search needs
 
 returns-2 : tie.Need-returns-2
-unfolding survey
 returns-2 c =
     let surveyed = c .before .before .before in
-    let else = surveyed .before .before in
-    let start = else .before .before .before in
-    let shadow = now (start .args .shadow) in
-    let table = now (start .args .table) in
-    let again : found (row-at quarantined table (start .args .address)) ≡ true = sym (ap (λ s. s .again) (surveyed .survey .ensures)) ∙ c .if2 .taken in
-    by-found (row-at quarantined table (start .args .address))
-    (λ i e. sym (release-twice (start .args .redzone) (start .args .quarantine) shadow table (start .args .address) i (else .if1 .left) (live-none (c .before)) e))
-    (λ e. absurd (true≢false (sym again ∙ ap found e)))
+    refused (c .before) Released (λ i e. refl) (λ e. absurd (true≢false (sym (c .if2 .taken) ∙ again-is surveyed ∙ ap found e)))
 
 same-length-2 : tie.Need-same-length-2
 same-length-2 c = search needs
 
 returns-3 : tie.Need-returns-3
-unfolding survey
 returns-3 c =
     let surveyed = c .before .before .before in
-    let else = surveyed .before .before in
-    let start = else .before .before .before in
-    let shadow = now (start .args .shadow) in
-    let table = now (start .args .table) in
-    let again : found (row-at quarantined table (start .args .address)) ≡ false = sym (ap (λ s. s .again) (surveyed .survey .ensures)) ∙ c .if2 .left in
-    by-found (row-at quarantined table (start .args .address))
-    (λ i e. absurd (true≢false (sym (ap found e) ∙ again)))
-    (λ e. sym (release-foreign (start .args .redzone) (start .args .quarantine) shadow table (start .args .address) (else .if1 .left) (live-none (c .before)) e))
+    refused (c .before) NotHeld (λ i e. absurd (true≢false (sym (ap found e) ∙ sym (again-is surveyed) ∙ c .if2 .left))) (λ e. refl)
 
 quarantine-row-requires : tie.Need-quarantine-row-requires
 unfolding survey

@@ -9,9 +9,8 @@ use borrow.Author.Needs.{needs}
 use Rattle.rules.specs.Limits.{granule, row-numbers}
 use Rattle.rules.specs.Table.{column, size}
 use Rattle.rules.specs.Release.{starts-at, weight}
-use Rattle.rules.proofs.Release.{weight-most}
 use Rattle.blocks.specs.Survey.{first-of, surveyed}
-use Rattle.blocks.proofs.Survey.{rows-most, count-most, weight-most-so-far, surveyed-live, surveyed-quarantined, surveyed-other}
+use Rattle.blocks.proofs.Survey.{rows-most, weights-fit, count-most, weight-most-so-far, surveyed-live, surveyed-quarantined, surveyed-other}
 use Rattle.blocks.proofs.rows.with_row.Statement.{statement}
 use Rattle.blocks.proofs.rows.with_row.Tie as tie
 
@@ -66,17 +65,13 @@ add-weight c =
     let weighed = c .before in
     let known = weighed .before .before .before .before .before .before .before in
     let start = known .before in
+    let R = start .args .redzone in
     let table = now (start .args .table) in
+    let row = start .args .row in
     let fits : (j : ℕ) → size table j < 2 ^ 32 = λ j. omega (arith, known .shared-slice-known .given (row-numbers * j + 1)) in
-    omega (
-      arith,
-      weight-most-so-far (start .args .redzone) table (start .args .address) (start .args .row) (start .args .seen) (start .pre .before) (start .pre .lent .near) fits,
-      weight-most (start .args .redzone) (size table (start .args .row)) (start .pre .lent .near) (fits (start .args .row)),
-      weighed .weight-of .ensures,
-      ap (weight (start .args .redzone)) (weighed .before .number3 .ensures),
-      start .pre .below,
-      rows-most (start .pre .lent),
-    )
+    let so-far = weight-most-so-far R table (start .args .address) row (start .args .seen) (start .pre .before) (start .pre .lent .near) fits in
+    let one-more = weighed .weight-of .ensures ∙ ap (weight R) (weighed .before .number3 .ensures) in
+    record { fits = weights-fit row row (start .args .seen .weight) (weighed .weight-of .result) (start .pre .lent) (omega (arith, start .pre .below)) fits so-far one-more }
 
 oldest-with-requires : tie.Need-oldest-with-requires
 unfolding surveyed
