@@ -1,0 +1,21 @@
+-- `cases::within::number` meets its contract: the test before the call is what the leaf asks. Assumes nothing.
+use Rattle.rules.specs.Table.{rows}
+use borrow.Author.Needs.{needs}
+use Rattle.cases.proofs.within.number.Statement.{statement}
+use Rattle.cases.proofs.within.number.Tie as tie
+
+number-requires : tie.Need-number-requires
+unfolding rows
+number-requires c κs = search needs
+
+returns : tie.Need-returns
+returns c = search needs
+
+not-asked-requires : tie.Need-not-asked-requires
+not-asked-requires c κs = search needs
+
+returns-2 : tie.Need-returns-2
+returns-2 c = search needs
+
+pub number-spec : {M : Type 1} → statement M
+number-spec = tie.close (tie.spec number-requires returns not-asked-requires returns-2)
