@@ -375,12 +375,15 @@ fn which_row() {
     refused_at_ten(b"2830 2800 28F0 0000", 7);
 }
 
-// A start of 20000002 is not at address 10.
+// A start of 20000002 is not at address 10, and nothing changes.
 fn far() {
     let mut shadow = [0x00, 0xfa, 0x00];
     let mut table = [0x2000_0002, 8, 1, 0, 0x2000_0002, 8, 2, 1];
-    let answer = within::release(&mut shadow, &mut table, 2, 16, 0x10);
-    show::case(show::same_three(in_numbers(answer), Three(7, 0, 0)));
+    let answered = in_numbers(within::release(&mut shadow, &mut table, 2, 16, 0x10));
+    let right = show::same_three(answered, Three(7, 0, 0));
+    let painted = show::same_bytes(&shadow, b"\x00\xfa\x00");
+    let rows = show::same_numbers(&table, &[0x2000_0002, 8, 1, 0, 0x2000_0002, 8, 2, 1]);
+    show::case(right & painted & rows);
 }
 
 fn release() {

@@ -107,7 +107,7 @@ fn seen(
     sees_in(&table, address, live, again, count, weight, oldest);
 }
 
-// The night's rows before line 10: two blocks of 13 and 1 bytes quarantined, one live at 48. A wider redzone weighs no more.
+// The night's rows before line 10: two blocks of 13 and 1 bytes quarantined, one live at 48.
 fn night(text: &[u8; 19]) {
     seen(text, 0x48, 2, false, 2, 14, 0);
     seen(text, 0x10, NONE, true, 2, 14, 0);
@@ -117,6 +117,7 @@ fn night(text: &[u8; 19]) {
     seen(text, 0x09, NONE, false, 2, 14, 0);
 }
 
+// A wider redzone weighs no more; of no rows there is nothing to find.
 fn widest() {
     let table = [2u32, 13, 2, 1];
     let got = within::survey(&table, 256, 0x10);
