@@ -1,4 +1,4 @@
--- What the watcher holds: the paper's limits and magic bytes, each under one name.
+-- What the watcher holds: the paper's limits and magic bytes, each under one name; and one mark of our own, for no digit.
 use Prim.Native.Nat.{ℕ}
 use mathlib.Core.Bool.{Bool, _&&_}
 use lib.Dec.{leb}
