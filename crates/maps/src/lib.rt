@@ -2,6 +2,7 @@
 ghost use Prim.Native.Nat.{_^_, _<_};
 ghost use mathlib.Core.Path.{_≡_};
 ghost use Rattle.rules.specs.Answers.{status};
+ghost use Rattle.rules.proofs.Maps.{Published};
 ghost use Rattle.rules.specs.Maps.{map32, map64, region, region-number, map-answer, map-shadow, map-call};
 use rules::Map;
 use rules::Mapped;
@@ -29,6 +30,7 @@ const COLUMN64: Map = Map {
 };
 
 fn region_of(map: Map, address: u64) -> Region
+    requires { ⌜ Published map ⌝ }
     ensures { λ r. ⌜ r ≡ region map address ⌝ }
 {
     if address <= map.low_mem {
@@ -89,7 +91,7 @@ fn mapped(found: Region, shadow: u64) -> Mapped
 
 // The offset leaves room for any address / 8, so the sum does not wrap.
 fn through(map: Map, address: u64) -> Mapped
-    requires { ⌜ map .offset < 2 ^ 63 ⌝ }
+    requires { ⌜ (map .offset < 2 ^ 63) × Published map ⌝ }
     ensures { λ r. ⌜ r ≡ map-call map address ⌝ }
 {
     let shadow = address / (GRANULE as u64) + map.offset;

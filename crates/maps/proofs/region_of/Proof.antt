@@ -1,72 +1,27 @@
--- `maps::region_of` meets its contract: at each return the tests passed on the way open the choices of `region`. Assumes nothing.
-use mathlib.Core.Path.{sym, _∙_}
-use borrow.Author.Tests.{le-leb, lt-leb}
-use Rattle.rules.specs.Maps.{region}
-use Rattle.rules.proofs.Tests.{if-true, if-false}
+-- `maps::region_of` meets its contract: each test that passes puts the address into its region, by the laws of a published map.
+-- Assumes nothing.
+use mathlib.Core.Path.{sym}
+use Rattle.rules.proofs.Maps.{in-low-mem, in-low-shadow, in-gap, in-high-shadow, in-high-mem, beyond}
 use Rattle.maps.proofs.region_of.Statement.{statement}
 use Rattle.maps.proofs.region_of.Tie as tie
 
 returns : tie.Need-returns
-unfolding region
-returns c = sym (if-true _ _ (le-leb _ _ (c .if1 .taken)))
+returns c = sym (in-low-mem _ (c .before .before .pre) _ (c .if1 .taken))
 
 returns-2 : tie.Need-returns-2
-unfolding region
-returns-2 c =
-    let test1 = c .before .before in
-    sym (
-    if-false _ _ (lt-leb _ _ (test1 .if1 .left))
-    ∙ if-true _ _ (le-leb _ _ (c .if2 .taken)))
+returns-2 c = sym (in-low-shadow _ (c .before .before .before .before .pre) _ (c .before .before .if1 .left) (c .if2 .taken))
 
 returns-3 : tie.Need-returns-3
-unfolding region
-returns-3 c =
-    let test2 = c .before .before in
-    let test1 = test2 .before .before in
-    sym (
-    if-false _ _ (lt-leb _ _ (test1 .if1 .left))
-    ∙ if-false _ _ (lt-leb _ _ (test2 .if2 .left))
-    ∙ if-true _ _ (le-leb _ _ (c .if3 .taken)))
+returns-3 c = sym (in-gap _ (c .before .before .before .before .before .before .pre) _ (c .before .before .if2 .left) (c .if3 .taken))
 
 returns-4 : tie.Need-returns-4
-unfolding region
-returns-4 c =
-    let test3 = c .before .before in
-    let test2 = test3 .before .before in
-    let test1 = test2 .before .before in
-    sym (
-    if-false _ _ (lt-leb _ _ (test1 .if1 .left))
-    ∙ if-false _ _ (lt-leb _ _ (test2 .if2 .left))
-    ∙ if-false _ _ (lt-leb _ _ (test3 .if3 .left))
-    ∙ if-true _ _ (le-leb _ _ (c .if4 .taken)))
+returns-4 c = sym (in-high-shadow _ (c .before .before .before .before .before .before .before .before .pre) _ (c .before .before .if3 .left) (c .if4 .taken))
 
 returns-5 : tie.Need-returns-5
-unfolding region
-returns-5 c =
-    let test4 = c .before .before in
-    let test3 = test4 .before .before in
-    let test2 = test3 .before .before in
-    let test1 = test2 .before .before in
-    sym (
-    if-false _ _ (lt-leb _ _ (test1 .if1 .left))
-    ∙ if-false _ _ (lt-leb _ _ (test2 .if2 .left))
-    ∙ if-false _ _ (lt-leb _ _ (test3 .if3 .left))
-    ∙ if-false _ _ (lt-leb _ _ (test4 .if4 .left))
-    ∙ if-true _ _ (le-leb _ _ (c .if5 .taken)))
+returns-5 c = sym (in-high-mem _ (c .before .before .before .before .before .before .before .before .before .before .pre) _ (c .before .before .if4 .left) (c .if5 .taken))
 
 returns-6 : tie.Need-returns-6
-unfolding region
-returns-6 c =
-    let test4 = c .before .before in
-    let test3 = test4 .before .before in
-    let test2 = test3 .before .before in
-    let test1 = test2 .before .before in
-    sym (
-    if-false _ _ (lt-leb _ _ (test1 .if1 .left))
-    ∙ if-false _ _ (lt-leb _ _ (test2 .if2 .left))
-    ∙ if-false _ _ (lt-leb _ _ (test3 .if3 .left))
-    ∙ if-false _ _ (lt-leb _ _ (test4 .if4 .left))
-    ∙ if-false _ _ (lt-leb _ _ (c .if5 .left)))
+returns-6 c = sym (beyond _ (c .before .before .before .before .before .before .before .before .before .before .pre) _ (c .if5 .left))
 
 pub region-of-spec : {M : Type 1} → statement M
 region-of-spec = tie.close (tie.spec returns returns-2 returns-3 returns-4 returns-5 returns-6)
