@@ -7,7 +7,7 @@ use rules::limits::QUARANTINED;
 use rules::limits::ROW_NUMBERS;
 ghost use mathlib.Core.Path.{_≡_};
 ghost use Prim.Native.Nat.{_+_, _*_, _<_};
-ghost use lib.ListN.{set};
+ghost use lib.ListN.{length, set, replicate};
 ghost use Rattle.rules.specs.Limits.{row-numbers};
 ghost use Rattle.rules.specs.Lowest.{answered};
 ghost use Rattle.rules.specs.Table.{rows, column, put-row};
@@ -70,6 +70,17 @@ pub fn put_row(table: &mut [u32], row: usize, start: u32, size: u32, state: u32,
     set_number(table, row, SIZE, size);
     set_number(table, row, STATE, state);
     set_number(table, row, TURN, turn);
+}
+
+// Every row is empty: four zeros.
+pub fn clear(table: &mut [u32])
+    ensures { λ _. ⌜ now (table .exit) ≡ replicate (length (now (table .entry))) 0 ⌝ }
+{
+    let mut i = 0;
+    while i < table.len() {
+        table[i] = 0;
+        i += 1;
+    }
 }
 
 // What a quarantined block weighs.

@@ -3,7 +3,7 @@ ghost use Prim.Native.Nat.{_<_};
 ghost use mathlib.Core.Path.{_≡_};
 ghost use lib.ListN.{length};
 ghost use Rattle.rules.specs.Limits.{answer-bytes};
-ghost use Rattle.rules.specs.Answers.{reply, in-numbers};
+ghost use Rattle.rules.specs.Answers.{reply, in-numbers, status};
 ghost use Rattle.rules.specs.Frames.{digit, digits, answer-line};
 use rules::Answer;
 use rules::Reply;
@@ -40,6 +40,14 @@ pub fn numbers_of(answer: Answer) -> Reply
         Answer::BeyondMap => reply(31, 0, 0),
         Answer::InGap => reply(32, 0, 0),
     }
+}
+
+// An answer's number in the table.
+pub fn status_of(answer: Answer) -> u8
+    ensures { λ r. ⌜ r ≡ status answer ⌝ }
+{
+    let reply = numbers_of(answer);
+    reply.status
 }
 
 // A digit below 16, in lower case.

@@ -1,26 +1,26 @@
 -- The laws of the calls: when an opening is refused and what it leaves, what the check behind 24 says, that a session handed back is
 -- taken again, that direct calls answer as their frames do, and what a feed leaves of its room. Assumes nothing.
-use Prim.Native.Nat.{ℕ, _+_, _-_, _*_, _/_, _%_, _≤_, zero-le}
+use Prim.Native.Nat.{ℕ, _+_, _-_, _*_, _/_, _%_, _≤_, _<_, zero-le}
 use native.Mathlib.Omega.{arith}
 use mathlib.Core.Path.{_≡_, refl, sym, ap, subst, _∙_}
 use mathlib.Core.Logic.{_≢_}
-use mathlib.Core.Bool.{Bool, true, false}
+use mathlib.Core.Bool.{Bool, true, false, not}
 use mathlib.Core.List.{List, []}
 use lib.ListN.{length, getD, set, take, replicate, length-replicate, getD-replicate}
 use lib.Seq.{getD-set-other}
 use lib.Dec.{eqb}
-use borrow.Author.Tests.{eqb-true, eq-eqb, leb-true, le-leb}
+use borrow.Author.Tests.{eqb-true, eq-eqb, ne-eqb, leb-true, le-leb}
 use Rattle.rules.specs.declared.Session.{Session}
 use Rattle.rules.specs.declared.Answer.the-variants.{Done, BadShadowLength, BadRedzone, BadTableLength, BadSession}
 use Rattle.rules.specs.declared.Frame.the-variants.{Grant, Release, Read}
 use Rattle.rules.specs.Limits.{between, least-granules, most-granules, least-rows, most-rows, row-numbers, least-redzone, most-redzone, frame-digits, too-long, redzone-byte}
 use Rattle.rules.specs.Answers.{in-numbers, status}
-use Rattle.rules.specs.Lowest.{lowest, all-equal}
+use Rattle.rules.specs.Lowest.{lowest, found, all-equal}
 use Rattle.rules.specs.Grant.{kept}
 use Rattle.rules.specs.Feed.{State, Ran, no-bytes, with-line, emptied, lengthened, act, finish, hold, step, run, taken}
 use Rattle.rules.specs.Calls.{closed, fresh, table-length, OpenedWith, not-opened, open-with, unused-zero, within-limits, fits-lent, grant-call, release-call, access-call, unfinished-call, fed-with, feed}
 use Rattle.rules.proofs.Tests.{between-is, between-true, both, by-order, by-test, if-false, if-true, join}
-use Rattle.rules.proofs.Lowest.{AllEqual, all-equal-true, all-equal-is}
+use Rattle.rules.proofs.Lowest.{walk-found, walk-on, walk-end, AllEqual, all-equal-true, all-equal-is}
 use Rattle.rules.proofs.Put.{length-put, put-after, put-nothing}
 use Rattle.rules.proofs.Feed.{SameNumbers, lengthened-short, lengthened-long, by-byte, step-numbers, step-lengths, run-has, run-report, taken-fits}
 
@@ -47,6 +47,21 @@ unused-true line n e k from below = all-equal-true line 0 n (frame-digits - n) e
 pub unused-is : (line : List ℕ) (n : ℕ) → AllEqual line 0 n frame-digits → unused-zero line n ≡ true
 unfolding unused-zero
 unused-is line n zeros = all-equal-is line 0 n (frame-digits - n) (λ k from below. zeros k from (omega arith))
+
+-- place by place
+pub unused-end : (line : List ℕ) (n : ℕ) → frame-digits ≤ n → unused-zero line n ≡ true
+unfolding unused-zero all-equal
+unused-end line n past = ap (λ o. not (found o)) (walk-end (λ k. not (eqb (getD line k 0) 0)) frame-digits n past)
+
+pub unused-here : (line : List ℕ) (n : ℕ) → n < frame-digits → getD line n 0 ≢ 0 → unused-zero line n ≡ false
+unfolding unused-zero all-equal
+unused-here line n below used =
+    ap (λ o. not (found o)) (walk-found (λ k. not (eqb (getD line k 0) 0)) frame-digits n below (ap not (ne-eqb (getD line n 0) 0 used)))
+
+pub unused-next : (line : List ℕ) (n : ℕ) → n < frame-digits → getD line n 0 ≡ 0 → unused-zero line n ≡ unused-zero line (n + 1)
+unfolding unused-zero all-equal
+unused-next line n below is-zero =
+    ap (λ o. not (found o)) (walk-on (λ k. not (eqb (getD line k 0) 0)) frame-digits n below (ap not (eq-eqb (getD line n 0) 0 is-zero)))
 
 pub within-true : (session : Session) → within-limits session ≡ true → Within session
 unfolding within-limits
@@ -85,6 +100,16 @@ unfolding fits-lent
 lent-is session shadow table l =
     join (join (within-is session (l .within)) (eq-eqb (length shadow) (session .granules) (l .of-shadow)))
     (eq-eqb (length table) (row-numbers * session .rows) (l .of-table))
+
+-- so what is lent is within the paper's limits
+pub lent-granules : {session : Session} {shadow table : List ℕ} → Lent session shadow table → length shadow ≤ most-granules
+lent-granules {session} l = omega (arith, l .of-shadow, between-is least-granules most-granules (session .granules) (l .within .granules) .1)
+
+pub lent-numbers : {session : Session} {shadow table : List ℕ} → Lent session shadow table → length table ≤ row-numbers * most-rows
+lent-numbers {session} l = omega (arith, l .of-table, between-is least-rows most-rows (session .rows) (l .within .rows) .1)
+
+pub lent-redzone : {session : Session} {shadow table : List ℕ} → Lent session shadow table → session .redzone ≤ most-redzone
+lent-redzone {session} l = between-is least-redzone most-redzone (session .redzone) (l .within .redzone) .1
 
 -- a closed session fits nothing
 pub closed-refused : (shadow table : List ℕ) → fits-lent closed shadow table ≡ false

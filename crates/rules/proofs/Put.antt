@@ -1,11 +1,12 @@
 -- The laws of `put` and `fill`: the length stays, what is put stands in its place, and all else stands as it did. Assumes nothing.
-use Prim.Native.Nat.{ℕ, _+_, _-_, _≤_, _<_, min}
+use Prim.Native.Nat.{ℕ, _+_, _-_, _≤_, _<_, min, zero-le}
 use native.Mathlib.Nat.{add-zero}
 use native.Mathlib.Omega.{arith}
-use mathlib.Core.Path.{_≡_, sym, ap, subst, _∙_}
-use mathlib.Core.List.{List, [], _++_, append-assoc}
-use lib.ListN.{length, getD, take, drop, replicate, length-append, length-drop, length-replicate, take-append-drop, getD-replicate, List·getD-append}
-use lib.Seq.{length-take-le, getD-append-add, getD-take, getD-drop, drop-drop, sets, sets-eq}
+use mathlib.Core.Path.{_≡_, refl, sym, ap, subst, _∙_}
+use mathlib.Core.List.{List, [], _++_, append-assoc, append-nil}
+use lib.ListN.{length, getD, take, drop, replicate, set, length-append, length-drop, length-replicate, length-set, take-append-drop, getD-replicate, List·getD-append}
+use lib.Seq.{length-take-le, getD-append-add, getD-take, getD-drop, take-append-seam, drop-append-add, drop-drop, drop-length, sets, sets-eq}
+use borrow.Author.Fill.{fill-none, fill-more}
 use Rattle.rules.specs.Put.{put, fill}
 use Rattle.rules.proofs.Tests.{by-order}
 
@@ -31,6 +32,17 @@ pub put-lent : (whole : List ℕ) (at n : ℕ) (part : List ℕ) → length part
 unfolding put
 put-lent whole at n part e =
     ap (λ l. take at whole ++ (part ++ l)) (drop-drop n at whole ∙ ap (λ m. drop (at + m) whole) (sym e))
+
+-- one part behind another
+pub put-behind : (whole first second : List ℕ) → put (put whole 0 first) (length first) second ≡ put whole 0 (first ++ second)
+unfolding put
+put-behind whole first second =
+    let rest : List ℕ = drop (0 + length first) whole in
+    let both-long : 0 + length first + length second ≡ 0 + length (first ++ second) = omega (arith, length-append first second) in
+    rw (take-append-seam first rest, drop-append-add first rest (length second))
+    (sym (append-assoc first second (drop (length second) rest))
+    ∙ ap (λ l. (first ++ second) ++ l)
+    (drop-drop (length second) (0 + length first) whole ∙ ap (λ n. drop n whole) both-long))
 
 pub put-in : (whole : List ℕ) (at : ℕ) (part : List ℕ) (k d : ℕ) → at ≤ length whole → k < length part
     → getD (put whole at part) (at + k) d ≡ getD part k d
@@ -141,3 +153,29 @@ fill-each P whole at n v of-whole of-v k below =
     by-order k (at + n)
     (λ filled. subst P (sym (fill-in whole at n v k 0 from filled in-whole)) of-v)
     (λ after. subst P (sym (fill-after whole at n v k 0 after)) (of-whole k in-whole)))
+
+-- ---- a fill, store by store
+
+-- the first i numbers of `now` are v, and the rest is as it was at the start
+pub record Filled (v : ℕ) (start : List ℕ) (i : ℕ) (now : List ℕ) : Type 0 where
+  pub most : i ≤ length start
+  pub same-length : length now ≡ length start
+  pub so-far : now ≡ replicate i v ++ drop i start
+
+pub filled-none : (v : ℕ) (start : List ℕ) → Filled v start 0 start
+filled-none v start = record { most = zero-le; same-length = refl; so-far = fill-none start v }
+
+pub filled-more : {v : ℕ} {start : List ℕ} {i : ℕ} {now : List ℕ} → Filled v start i now → i < length start → Filled v start (i + 1) (set now i v)
+filled-more {v} {start} {i} {now} f below = record {
+  most = omega arith;
+  same-length = length-set now i v ∙ f .same-length;
+  so-far = ap (λ l. set l i v) (f .so-far) ∙ fill-more i v start below;
+}
+
+pub filled-all : {v : ℕ} {start : List ℕ} {i : ℕ} {now : List ℕ} → Filled v start i now → length start ≤ i → now ≡ replicate (length start) v
+filled-all {v} {start} {i} {now} f past =
+    let all : i ≡ length start = omega (arith, f .most) in
+    f .so-far
+    ∙ ap (λ k. replicate k v ++ drop k start) all
+    ∙ ap (λ l. replicate (length start) v ++ l) (drop-length start)
+    ∙ append-nil (replicate (length start) v)

@@ -3,8 +3,8 @@
 use Prim.Native.Nat.{ℕ, _≤_, _<_}
 use native.Mathlib.Decide.{decLt}
 use native.Mathlib.Omega.{arith}
-use mathlib.Core.Path.{_≡_, refl, ap}
-use mathlib.Core.Bool.{Bool, true, false, _&&_, and-eq-true-iff}
+use mathlib.Core.Path.{_≡_, refl, sym, ap}
+use mathlib.Core.Bool.{Bool, true, false, not, _&&_, and-eq-true-iff, true≢false}
 use mathlib.Core.Option.{Option, none, some}
 use lib.Dec.{leb}
 use borrow.Author.Tests.{leb-true, le-leb, lt-leb}
@@ -37,6 +37,15 @@ both {a} {b} e = and-eq-true-iff a b .0 e
 
 pub join : {a b : Bool} → a ≡ true → b ≡ true → (a && b) ≡ true
 join {a} {b} e f = and-eq-true-iff a b .1 (e, f)
+
+-- a test that is denied
+pub not-true : (t : Bool) → not t ≡ true → t ≡ false
+not-true true e = absurd (true≢false (sym e))
+not-true false e = refl
+
+pub not-false : (t : Bool) → not t ≡ false → t ≡ true
+not-false true e = refl
+not-false false e = absurd (true≢false e)
 
 -- ---- limits, as a test
 

@@ -19,7 +19,8 @@ fn lesser(a: usize, b: usize) -> usize
     if a < b { a } else { b }
 }
 
-fn cover(part: &mut [u8], value: u8)
+// Every byte of the part becomes `value`.
+pub fn cover(part: &mut [u8], value: u8)
     ensures { λ _. ⌜ now (part .exit) ≡ replicate (length (now (part .entry))) value ⌝ }
 {
     let mut i = 0;

@@ -1,0 +1,3 @@
+-- Reading a call's statement off one equation; what follows from the statements; and a piece, byte by byte.
+pub mod Calls
+pub mod Feeding

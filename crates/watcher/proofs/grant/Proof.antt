@@ -1,0 +1,57 @@
+-- `watcher::grant` meets its contract: 24 where the session does not fit what is lent, else as its frame does. Assumes nothing.
+use mathlib.Core.Path.{sym, ap, _∙_}
+use denote.Ref.{now}
+use borrow.Author.Needs.{needs}
+use Rattle.rules.specs.Calls.{grant-call}
+use Rattle.rules.proofs.Tests.{if-true, not-true, not-false}
+use Rattle.rules.proofs.Calls.{lent-true, grant-24}
+use Rattle.watcher.proofs.Calls.{grants-is}
+use Rattle.watcher.proofs.grant.Statement.{statement}
+use Rattle.watcher.proofs.grant.Tie as tie
+
+fits-lent-requires : tie.Need-fits-lent-requires
+fits-lent-requires c κs = search needs
+
+same-length : tie.Need-same-length
+same-length c = search needs
+
+same-length-2 : tie.Need-same-length-2
+same-length-2 c = search needs
+
+returns : tie.Need-returns
+returns c =
+    let start = c .before .before .before .before .before .before in
+    let fails = sym (c .before .fits-lent .ensures) ∙ not-true (c .before .fits-lent .result) (c .if1 .taken) in
+    grants-is (sym (grant-24 (start .args .session) (now (start .args .shadow)) (now (start .args .table)) (start .args .size) fails))
+
+grant-requires : tie.Need-grant-requires
+grant-requires c κs =
+    let test = c .before .before in
+    lent-true _ _ _ (sym (test .before .fits-lent .ensures) ∙ not-false (test .before .fits-lent .result) (test .if1 .left))
+
+same-length-3 : tie.Need-same-length-3
+same-length-3 c = search needs
+
+same-length-4 : tie.Need-same-length-4
+same-length-4 c = search needs
+
+returns-2 : tie.Need-returns-2
+unfolding grant-call
+returns-2 c =
+    let done = c .before .before .before .before in
+    let test = done .before .before .before in
+    let passes = sym (test .before .fits-lent .ensures) ∙ not-false (test .before .fits-lent .result) (test .if1 .left) in
+    grants-is (done .grant .ensures ∙ sym (if-true _ _ passes))
+
+pub grant-spec : {M : Type 1} → statement M
+grant-spec =
+    tie.close
+    (tie.spec
+    fits-lent-requires
+    same-length
+    same-length-2
+    returns
+    grant-requires
+    same-length-3
+    same-length-4
+    returns-2)

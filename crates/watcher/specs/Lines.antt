@@ -1,0 +1,26 @@
+-- What the functions behind a feed ask, and what they leave.
+use Prim.Native.Nat.{ℕ}
+use mathlib.Core.Path.{_≡_}
+use mathlib.Core.List.{List}
+use lib.ListN.{length, take}
+use Rattle.rules.specs.declared.Session.{Session}
+use Rattle.rules.specs.declared.Fed.{Fed}
+use Rattle.rules.specs.Limits.{answer-bytes}
+use Rattle.rules.specs.Feed.{State, Ran, run, taken}
+use Rattle.rules.specs.Calls.{FedWith, fed-with}
+use Rattle.rules.proofs.Calls.{Lent, state-of}
+
+-- a finished line has a session that fits what is lent, and room for one answer
+pub record Finishing (session : Session) (shadow table part : List ℕ) : Type 0 where
+  pub lent : Lent session shadow table
+  pub room : length part ≡ answer-bytes
+
+abbrev pub ran : Session → List ℕ → List ℕ → List ℕ → Ran
+ran session shadow table report = record { state = state-of session shadow table; report = report }
+
+abbrev pub fed : Fed → List ℕ → List ℕ → List ℕ → FedWith
+fed given shadow table room = record { given = given; shadow = shadow; table = table; room = room }
+
+-- `run` over the bytes taken
+abbrev pub fed-of : State → List ℕ → List ℕ → FedWith
+fed-of st piece room = fed-with (run st (take (taken piece (length room)) piece)) (taken piece (length room)) room

@@ -1,0 +1,63 @@
+// The text: one finished line, and a piece byte by byte.
+use crate::acts;
+use crate::session;
+use frames::answers;
+use frames::lines;
+use rules::Answer;
+use rules::Fed;
+use rules::Session;
+use rules::limits::ANSWER_BYTES;
+use rules::limits::LINE_FEED;
+ghost use mathlib.Core.Path.{_≡_};
+ghost use Rattle.rules.specs.Feed.{finish};
+ghost use Rattle.rules.proofs.Calls.{Lent, state-of};
+ghost use Rattle.watcher.specs.Lines.{Finishing, ran, fed, fed-of};
+
+// A finished line is acted on and answered in the 13 bytes lent, and its session has an empty line.
+pub fn finish(session: Session, shadow: &mut [u8], table: &mut [u32], part: &mut [u8]) -> Session
+    requires { ⌜ Finishing session (now shadow) (now table) (now part) ⌝ }
+    ensures { λ r. ⌜ ran r (now (shadow .exit)) (now (table .exit)) (now (part .exit)) ≡ finish (state-of session (now (shadow .entry)) (now (table .entry))) ⌝ }
+{
+    let line = session.line;
+    let frame = lines::frame_of_line(session.unfinished, line);
+    let answer = acts::act(session, shadow, table, frame);
+    answers::put_answer(part, answer);
+    session::emptied(session)
+}
+
+pub fn feed(
+    session: Session,
+    shadow: &mut [u8],
+    table: &mut [u32],
+    piece: &[u8],
+    room: &mut [u8],
+) -> Fed
+    requires { ⌜ Lent session (now shadow) (now table) ⌝ }
+    ensures { λ r. ⌜ fed r (now (shadow .exit)) (now (table .exit)) (now (room .exit)) ≡ fed-of (state-of session (now (shadow .entry)) (now (table .entry))) (now (piece .entry)) (now (room .entry)) ⌝ }
+{
+    let status = answers::status_of(Answer::Done { value: 0 });
+    let mut current = session;
+    let mut taken = 0;
+    let mut wrote = 0;
+    while taken < piece.len() {
+        let byte = piece[taken];
+        if byte != LINE_FEED {
+            current = session::lengthened(current, byte);
+            taken += 1;
+            continue;
+        }
+        if room.len() - wrote < ANSWER_BYTES {
+            break;
+        }
+        let end = wrote + ANSWER_BYTES;
+        current = finish(current, shadow, table, &mut room[wrote..end]);
+        wrote = end;
+        taken += 1;
+    }
+    Fed {
+        session: current,
+        status,
+        taken,
+        wrote,
+    }
+}
