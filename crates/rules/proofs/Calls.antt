@@ -22,7 +22,7 @@ use Rattle.rules.specs.Calls.{closed, fresh, table-length, OpenedWith, n
 use Rattle.rules.proofs.Tests.{between-is, between-true, both, by-order, by-test, if-false, if-true, join}
 use Rattle.rules.proofs.Lowest.{walk-found, walk-on, walk-end, AllEqual, all-equal-true, all-equal-is}
 use Rattle.rules.proofs.Put.{length-put, put-after, put-nothing}
-use Rattle.rules.proofs.Feed.{SameNumbers, lengthened-short, lengthened-long, by-byte, step-numbers, step-lengths, run-has, run-report, taken-fits}
+use Rattle.rules.proofs.Feed.{RefusedKeeps, grant-refused, release-refused, SameNumbers, lengthened-short, lengthened-long, by-byte, step-numbers, step-lengths, run-has, run-report, taken-fits}
 
 -- ---- the check behind 24
 
@@ -281,6 +281,21 @@ pub access-24 : (session : Session) (shadow table : List ℕ) (a n : ℕ) → fi
     → access-call session shadow table a n ≡ BadSession
 unfolding access-call
 access-24 session shadow table a n e = if-false _ _ e
+
+-- a refused one changes neither shadow nor table
+pub grant-call-refused : (session : Session) (shadow table : List ℕ) (s : ℕ) → RefusedKeeps shadow table (grant-call session shadow table s)
+unfolding grant-call
+grant-call-refused session shadow table s =
+    by-test (fits-lent session shadow table)
+    (λ fits. subst (RefusedKeeps shadow table) (sym (if-true _ _ fits)) (grant-refused (session .redzone) shadow table s))
+    (λ not. subst (RefusedKeeps shadow table) (sym (if-false _ _ not)) (λ refused. (refl, refl)))
+
+pub release-call-refused : (session : Session) (shadow table : List ℕ) (a : ℕ) → RefusedKeeps shadow table (release-call session shadow table a)
+unfolding release-call
+release-call-refused session shadow table a =
+    by-test (fits-lent session shadow table)
+    (λ fits. subst (RefusedKeeps shadow table) (sym (if-true _ _ fits)) (release-refused (session .redzone) (session .quarantine) shadow table a))
+    (λ not. subst (RefusedKeeps shadow table) (sym (if-false _ _ not)) (λ refused. (refl, refl)))
 
 pub unfinished-24 : (session : Session) → within-limits session ≡ false → unfinished-call session ≡ BadSession
 unfolding unfinished-call
