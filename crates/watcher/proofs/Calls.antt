@@ -7,7 +7,7 @@ use Rattle.rules.specs.declared.Answer.{Answer}
 use Rattle.rules.specs.declared.Opened.{Opened}
 use Rattle.rules.specs.declared.Fed.{Fed}
 use Rattle.rules.specs.Grant.{kept}
-use Rattle.rules.specs.Calls.{OpenedWith, open-with, grant-call, release-call, FedWith, feed}
+use Rattle.rules.specs.Calls.{OpenedWith, open-with, grant-call, release-call, feed}
 use Rattle.watcher.specs.Calls.{Opens, Grants, Releases, Feeds}
 use Rattle.watcher.specs.Lines.{fed}
 

@@ -10,9 +10,7 @@ use rules::limits::REDZONE_BYTE;
 use rules::limits::ROW_NUMBERS;
 use shadow::paint;
 
-mod acts;
 mod lines;
-mod session;
 
 ghost use mathlib.Core.Path.{_≡_};
 ghost use Rattle.rules.specs.Answers.{status};
@@ -60,7 +58,7 @@ pub fn grant(session: Session, shadow: &mut [u8], table: &mut [u32], size: u32) 
     if !session::fits_lent(session, shadow, table) {
         return Answer::BadSession;
     }
-    acts::grant(session, shadow, table, size)
+    pool::grant(session, shadow, table, size)
 }
 
 // As the frame 02 answers.
@@ -70,7 +68,7 @@ pub fn release(session: Session, shadow: &mut [u8], table: &mut [u32], address: 
     if !session::fits_lent(session, shadow, table) {
         return Answer::BadSession;
     }
-    acts::release(session, shadow, table, address)
+    pool::release(session, shadow, table, address)
 }
 
 // As the frames 03 and 04 answer: reads and writes are judged alike.
@@ -80,7 +78,7 @@ pub fn access(session: Session, shadow: &[u8], table: &[u32], address: u32, leng
     if !session::fits_lent(session, shadow, table) {
         return Answer::BadSession;
     }
-    acts::access(shadow, address, length)
+    pool::access(shadow, address, length)
 }
 
 // The length of the unfinished line, 0 to 19.

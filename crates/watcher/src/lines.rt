@@ -1,6 +1,4 @@
 // The text: one finished line, and a piece byte by byte.
-use crate::acts;
-use crate::session;
 use frames::answers;
 use frames::lines;
 use rules::Answer;
@@ -20,11 +18,12 @@ pub fn finish(session: Session, shadow: &mut [u8], table: &mut [u32], part: &mut
 {
     let line = session.line;
     let frame = lines::frame_of_line(session.unfinished, line);
-    let answer = acts::act(session, shadow, table, frame);
+    let answer = pool::act(session, shadow, table, frame);
     answers::put_answer(part, answer);
     session::emptied(session)
 }
 
+// The room's bytes from `wrote` on are still as they were lent.
 pub fn feed(
     session: Session,
     shadow: &mut [u8],

@@ -1,14 +1,9 @@
 -- `watcher::lines::feed` meets its contract. The invariant is `Feeding`: what is left to run is what was to run, less what is done. The
 -- measure is what is left of the piece. Assumes nothing.
-use Prim.Native.Nat.{_+_, _-_}
+use Prim.Native.Nat.{_-_}
 use native.Mathlib.Omega.{arith}
-use mathlib.Core.Path.{_≡_, sym, ap, subst, _∙_}
 use lib.ListN.{length}
-use denote.Ref.{now}
 use borrow.Author.Needs.{needs}
-use Rattle.rules.specs.Limits.{answer-bytes}
-use Rattle.rules.specs.Feed.{hold}
-use Rattle.rules.proofs.Put.{put-lent}
 use Rattle.rules.proofs.Calls.{state-of}
 use Rattle.watcher.specs.Lines.{ran}
 use Rattle.watcher.proofs.Feeding.{Feeding, feeding-start, feeding-room, feeding-byte, feeding-part, feeding-line, feeding-end, feeding-full}

@@ -1,0 +1,45 @@
+-- `session::fits_lent` meets its contract: within its limits four times the rows fit, and the tests are the definition's. Assumes nothing.
+use Prim.Native.Nat.{_*_}
+use native.Mathlib.Omega.{arith}
+use mathlib.Core.Path.{sym, ap, _∙_}
+use mathlib.Core.Bool.{_&&_}
+use lib.ListN.{length}
+use lib.Dec.{eqb}
+use denote.Ref.{now}
+use borrow.Author.Needs.{needs}
+use Rattle.rules.specs.Limits.{least-rows, most-rows, row-numbers}
+use Rattle.rules.specs.Calls.{fits-lent}
+use Rattle.rules.proofs.Tests.{not-true, not-false, between-is}
+use Rattle.rules.proofs.Calls.{within-true}
+use Rattle.session.proofs.fits_lent.Statement.{statement}
+use Rattle.session.proofs.fits_lent.Tie as tie
+
+within-limits-requires : tie.Need-within-limits-requires
+within-limits-requires c κs = search needs
+
+returns : tie.Need-returns
+unfolding fits-lent
+returns c =
+    let start = c .before .before .before .before in
+    let session = start .args .session in
+    ap (λ within. within && eqb (length (now (start .args .shadow))) (session .granules) && eqb (length (now (start .args .table))) (row-numbers * session .rows))
+    (sym (not-true (c .before .within-limits .result) (c .if1 .taken)) ∙ c .before .within-limits .ensures)
+
+mul-of-table : tie.Need-mul-of-table
+mul-of-table c =
+    let test = c .before .before in
+    let session = test .before .before .before .before .args .session in
+    let within = within-true session (sym (test .before .within-limits .ensures) ∙ not-false (test .before .within-limits .result) (test .if1 .left)) in
+    record { fits = omega (arith, between-is least-rows most-rows (session .rows) (within .rows) .1) }
+
+returns-2 : tie.Need-returns-2
+unfolding fits-lent
+returns-2 c =
+    let test = c .before .before in
+    let start = test .before .before .before .before in
+    let session = start .args .session in
+    ap (λ within. within && eqb (length (now (start .args .shadow))) (session .granules) && eqb (length (now (start .args .table))) (row-numbers * session .rows))
+    (sym (not-false (test .before .within-limits .result) (test .if1 .left)) ∙ test .before .within-limits .ensures)
+
+pub fits-lent-spec : {M : Type 1} → statement M
+fits-lent-spec = tie.close (tie.spec within-limits-requires returns mul-of-table returns-2)
