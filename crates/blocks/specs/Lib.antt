@@ -1,3 +1,2 @@
--- What one pass over the rows finds, what the quarantine's functions leave, and what they ask of their callers.
+-- What one pass over the rows finds, and what the functions over them ask of their callers.
 pub mod Survey
-pub mod Quarantine

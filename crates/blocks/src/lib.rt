@@ -1,4 +1,2 @@
-// A lent table of rows, four numbers each: the lowest empty row, what one pass finds for a release, and the
-// quarantine with its evictions.
-pub mod quarantine;
+// A lent table of rows, four numbers each: the lowest empty row, and what one pass finds for a release.
 pub mod rows;

@@ -1,5 +1,4 @@
 // The quarantine: turns lessened, a row evicted, and whole releases, with answer, shadow and table compared each time.
-use blocks::quarantine;
 use cases::show;
 use cases::show::NONE;
 use cases::show::Three;

@@ -1,6 +1,5 @@
 // The leaves that ask something of their caller, each called only where it holds; elsewhere the case goes wrong.
 use crate::show;
-use blocks::quarantine;
 use blocks::rows;
 use blocks::rows::Seen;
 use frames::answers;
