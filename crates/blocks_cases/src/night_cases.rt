@@ -5,7 +5,6 @@ use cases::show::Three;
 use cases::tables::same_rows;
 use cases::within;
 use rules::Verdict;
-use shadow::paint;
 use shadow::range;
 
 // A grant that has a place and a row, and is answered 8 x start.
@@ -26,7 +25,7 @@ fn no_place(shadow: &[u8], size: u32) {
 
 fn release(shadow: &mut [u8; 16], table: &mut [u32; 16], address: u32, status: u64, value: u64) {
     let answer = within::release(shadow, table, 2, 16, address);
-    let reply = frames::answers::numbers_of(answer);
+    let reply = answers::numbers_of(answer);
     let answered = Three(reply.status as u64, reply.kind as u64, reply.value as u64);
     show::case(show::same_three(answered, Three(status, 0, value)));
 }

@@ -77,7 +77,7 @@ fn evict() {
 
 // 00 and a count, 07 or 08 and 0, as the paper's table has them.
 fn in_numbers(answer: Answer) -> Three {
-    let reply = frames::answers::numbers_of(answer);
+    let reply = answers::numbers_of(answer);
     Three(reply.status as u64, reply.kind as u64, reply.value as u64)
 }
 

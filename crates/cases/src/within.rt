@@ -2,12 +2,9 @@
 use crate::show;
 use blocks::rows;
 use blocks::rows::Seen;
-use frames::answers;
 use frames::lines;
 use rules::Answer;
 use rules::Found;
-use shadow::paint;
-use shadow::room;
 
 // The most granules are those of the largest size there is.
 pub fn place(shadow: &[u8], redzone: usize, granules: usize) -> Found {

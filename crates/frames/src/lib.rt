@@ -1,3 +1,2 @@
-// Text: what a line asks, and how an answer is written.
-pub mod answers;
+// Frames in: what a line asks.
 pub mod lines;

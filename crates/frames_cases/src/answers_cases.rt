@@ -5,7 +5,7 @@ use cases::within;
 use rules::Answer;
 
 fn says(answer: Answer, status: u64, kind: u64, value: u64) {
-    let reply = frames::answers::numbers_of(answer);
+    let reply = answers::numbers_of(answer);
     let answered = Three(reply.status as u64, reply.kind as u64, reply.value as u64);
     show::case(show::same_three(answered, Three(status, kind, value)));
 }

@@ -52,7 +52,7 @@ fn several() {
 }
 
 fn refused(answer: Answer) -> Three {
-    Three(0, frames::answers::numbers_of(answer).status as u64, 0)
+    Three(0, answers::numbers_of(answer).status as u64, 0)
 }
 
 // Kind, A and B of a frame; 00 and the status of a line that is refused.

@@ -11,7 +11,6 @@ use rules::limits::QUARANTINED;
 use rules::limits::REDZONE_BYTE;
 use rules::limits::RELEASED_BYTE;
 use rules::limits::ROW_NUMBERS;
-use shadow::paint;
 ghost use mathlib.Core.Path.{_≡_};
 ghost use Prim.Native.Nat.{_-_, _<_};
 ghost use Rattle.rules.specs.Table.{rows};

@@ -1,5 +1,3 @@
-// A lent shadow: the shadow byte, a range judged, a place found, a part painted.
+// A lent shadow read: the shadow byte, and a range judged by it.
 pub mod byte;
-pub mod paint;
 pub mod range;
-pub mod room;

@@ -1,7 +1,6 @@
 // The painter: a block's granules, a granted block, and a row's granules, with the whole shadow compared each time.
 use cases::show;
 use cases::within;
-use shadow::paint;
 
 fn takes(size: u32, expected: u64) {
     show::number(paint::granules_of(size) as u64, expected);

@@ -2,7 +2,6 @@
 use cases::show;
 use cases::show::NONE;
 use cases::within;
-use shadow::paint;
 
 // A place in a shadow that is free throughout.
 fn in_free(length: usize, redzone: usize, granules: usize, expected: u64) {

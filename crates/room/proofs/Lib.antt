@@ -1,0 +1,2 @@
+-- The search for a place, over the starts and over one window.
+pub mod Sought
