@@ -1,6 +1,5 @@
 // The lent shadow and table together: a grant, a release, an access, and what a frame does. Each asks for a session that has
 // passed the check behind 24.
-use blocks::quarantine;
 use blocks::rows;
 use rules::Answer;
 use rules::Found;
@@ -9,9 +8,7 @@ use rules::Session;
 use rules::Verdict;
 use rules::limits::GRANULE;
 use rules::limits::LIVE;
-use shadow::paint;
 use shadow::range;
-use shadow::room;
 ghost use Prim.Native.Nat.{_≤_};
 ghost use mathlib.Core.Path.{_≡_};
 ghost use lib.ListN.{length};

@@ -1,14 +1,12 @@
 // The public calls. None of them trusts its caller: a session that is closed, forged or not of the lent buffers is
 // answered 24, and every other input is judged by the rules. The session goes in by value and comes back by value.
 use blocks::rows;
-use frames::answers;
 use rules::Answer;
 use rules::Fed;
 use rules::Opened;
 use rules::Session;
 use rules::limits::REDZONE_BYTE;
 use rules::limits::ROW_NUMBERS;
-use shadow::paint;
 
 mod lines;
 

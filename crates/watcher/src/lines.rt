@@ -1,5 +1,4 @@
 // The text: one finished line, and a piece byte by byte.
-use frames::answers;
 use frames::lines;
 use rules::Answer;
 use rules::Fed;
