@@ -1,199 +1,88 @@
 // The rows of a table: the lowest empty one, one number of a row, a row put, and what one pass finds for a release.
 use blocks::rows;
+use blocks::rows::Seen;
 use cases::show;
-use cases::show::NONE;
 use cases::tables::same_rows;
 use cases::tables::table_of;
-use cases::within;
+use cases::text;
+use rules::Found;
 
-fn lowest_empty(table: &[u32; 16], expected: u64) {
-    show::found(rows::empty_row(table), expected);
+pub fn empty_row(line: &[u8]) {
+    let table = table_of(line, 2);
+    let lent = text::number(line, 1) as usize;
+    if lent <= 4 {
+        return show::found(rows::empty_row(&table[0..4 * lent]), text::number(line, 6));
+    }
+    show::not_asked();
 }
 
-fn empty_at(text: &[u8; 19], expected: u64) {
-    let table = table_of(text);
-    lowest_empty(&table, expected);
+fn number_within(table: &[u32], row: usize, k: usize) -> u32 {
+    if row < table.len() / 4 {
+        if k < 4 {
+            return rows::number(table, row, k);
+        }
+    }
+    show::not_asked();
+    0
 }
 
-fn no_rows() {
-    let table = [0u32; 4];
-    show::found(rows::empty_row(&table[0..0]), NONE);
+pub fn number(line: &[u8]) {
+    let table = table_of(line, 1);
+    let row = text::number(line, 5) as usize;
+    let k = text::number(line, 6) as usize;
+    show::number(number_within(&table, row, k) as u64, text::number(line, 7));
 }
 
-// "A state above 2 is neither empty nor held." A row is empty by its state alone.
-fn empty_row() {
-    show::begin(b"empty_row");
-    no_rows();
-    empty_at(b"0000 0000 0000 0000", 0);
-    empty_at(b"2810 6821 0000 0000", 2);
-    empty_at(b"2810 0000 6821 0000", 1);
-    empty_at(b"2810 6821 9810 0000", 3);
-    empty_at(b"2810 6821 9810 c822", NONE);
-    empty_at(b"0030 0000 0000 0000", 1);
-    empty_at(b"0030 00F0 0010 0020", NONE);
-    empty_at(b"7805 0000 0000 0000", 0);
-    show::end();
+fn put_within(table: &mut [u32], row: usize) {
+    if row < table.len() / 4 {
+        return rows::put_row(table, row, 0xffff_ffff, 0xffff_fffe, 2, 9);
+    }
+    show::not_asked();
 }
 
-fn reads(table: &[u32; 16], row: usize, k: usize, expected: u32) {
-    show::number(within::number(table, row, k) as u64, expected as u64);
+pub fn put_row(line: &[u8]) {
+    let mut table = table_of(line, 1);
+    put_within(&mut table, text::number(line, 5) as usize);
+    show::case(same_rows(&table, line, 6));
 }
 
-fn number(table: &[u32; 16]) {
-    show::begin(b"rows::number");
-    reads(table, 0, 0, 1);
-    reads(table, 0, 3, 4);
-    reads(table, 1, 0, 5);
-    reads(table, 1, 1, 6);
-    reads(table, 1, 2, 7);
-    reads(table, 3, 0, 13);
-    reads(table, 3, 3, 0xffff_ffff);
-    show::end();
+fn survey_within(table: &[u32], redzone: usize, address: u32) -> Seen {
+    if table.len() <= 4096 {
+        if redzone <= 256 {
+            return rows::survey(table, redzone, address);
+        }
+    }
+    show::not_asked();
+    Seen {
+        live: Found::Nothing,
+        again: false,
+        count: 0,
+        weight: 0,
+        oldest: Found::Nothing,
+    }
 }
 
-fn put_in(table: &mut [u32; 16], row: usize) {
-    within::put_row(table, row, 0xffff_ffff, 0xffff_fffe, 2, 9);
+fn same_seen(seen: Seen, line: &[u8]) -> bool {
+    let live = seen.live;
+    let oldest = seen.oldest;
+    let at = show::same_found(live, text::number(line, 8));
+    let again = show::same_number(seen.again as u64, text::number(line, 9));
+    let count = show::same_number(seen.count as u64, text::number(line, 10));
+    let weight = show::same_number(seen.weight, text::number(line, 11));
+    at & again & count & weight & show::same_found(oldest, text::number(line, 12))
 }
 
-fn put(row: usize, expected: &[u8; 19]) {
-    let mut table = table_of(b"1234 5678 9abc def1");
-    put_in(&mut table, row);
-    show::case(same_rows(&table, expected));
+fn surveyed(table: &[u32], line: &[u8]) {
+    let redzone = text::number(line, 6) as usize;
+    let seen = survey_within(table, redzone, text::number32(line, 7));
+    show::case(same_seen(seen, line));
 }
 
-fn put_row() {
-    show::begin(b"put_row");
-    put(0, b"FE29 5678 9abc def1");
-    put(1, b"1234 FE29 9abc def1");
-    put(3, b"1234 5678 9abc FE29");
-    show::end();
-}
-
-// What one pass finds: the lowest live row at the address, whether a quarantined one starts there, how many are quarantined,
-// what they weigh, and the oldest of them.
-fn sees(table: &[u32], address: u32, live: u64, again: bool, count: u64, weight: u64, oldest: u64) {
-    let got = within::survey(table, 2, address);
-    let got_live = got.live;
-    let got_oldest = got.oldest;
-    let rows = show::same_found(got_live, live) & show::same_found(got_oldest, oldest);
-    let there = show::same_number(got.again as u64, again as u64);
-    let counted = show::same_number(got.count as u64, count);
-    let weighed = show::same_number(got.weight, weight);
-    show::case(rows & there & counted & weighed);
-}
-
-fn sees_in(
-    table: &[u32; 16],
-    address: u32,
-    live: u64,
-    again: bool,
-    count: u64,
-    weight: u64,
-    oldest: u64,
-) {
-    sees(table, address, live, again, count, weight, oldest);
-}
-
-fn seen(
-    text: &[u8; 19],
-    address: u32,
-    live: u64,
-    again: bool,
-    count: u64,
-    weight: u64,
-    oldest: u64,
-) {
-    let table = table_of(text);
-    sees_in(&table, address, live, again, count, weight, oldest);
-}
-
-// The night's rows before line 10: two blocks of 13 and 1 bytes quarantined, one live at 48.
-fn night(text: &[u8; 19]) {
-    seen(text, 0x48, 2, false, 2, 14, 0);
-    seen(text, 0x10, NONE, true, 2, 14, 0);
-    seen(text, 0x30, NONE, true, 2, 14, 0);
-    seen(text, 0x11, NONE, false, 2, 14, 0);
-    seen(text, 0x47, NONE, false, 2, 14, 0);
-    seen(text, 0x09, NONE, false, 2, 14, 0);
-}
-
-// A wider redzone weighs no more; of no rows there is nothing to find.
-fn widest() {
-    let table = [2u32, 13, 2, 1];
-    let got = within::survey(&table, 256, 0x10);
-    show::number(got.weight, 13);
-    sees(&table[0..0], 0x10, NONE, false, 0, 0, NONE);
-}
-
-// "The lowest live row with 8 x start = a", beside quarantined ones there; no state but 1 is live, and none but 2 counts.
-fn starts() {
-    seen(b"5810 2810 2f10 0000", 0x10, 1, false, 0, 0, NONE);
-    seen(b"2821 2810 2422 0000", 0x10, 1, true, 2, 12, 0);
-    seen(b"2830 28F0 2800 4f21", 0x10, NONE, false, 1, 15, 3);
-}
-
-// 8 x start is a whole number: 8 x 20000002 is 1_0000_0010, and 8 x 1fffffff is the last address that a start has.
-fn far() {
-    let far = [
-        0x2000_0002,
-        8,
-        1,
-        0,
-        0x2000_0002,
-        8,
-        2,
-        1,
-        0x1fff_ffff,
-        8,
-        1,
-        0,
-        0x2000_0000,
-        8,
-        1,
-        0,
-    ];
-    sees(&far, 0x10, NONE, false, 1, 8, 1);
-    sees(&far, 0xffff_fff8, 2, false, 1, 8, 1);
-    sees(&far, 0x00, NONE, false, 1, 8, 1);
-}
-
-// Three sizes of ffffffff sum to 2_ffff_fffd. "The one with the lowest turn"; "on equal turns the lower row leaves first". A
-// live row's turn counts for nothing.
-fn oldest() {
-    seen(
-        b"1F21 2F22 3F23 0000",
-        0x08,
-        NONE,
-        true,
-        3,
-        0x2_ffff_fffd,
-        0,
-    );
-    seen(b"1F21 0000 0000 0000", 0x08, NONE, true, 1, 0xffff_ffff, 0);
-    seen(b"1823 2821 3822 0000", 0x20, NONE, false, 3, 24, 1);
-    seen(b"1825 2824 3824 0000", 0x20, NONE, false, 3, 24, 1);
-    seen(b"1820 2820 0000 0000", 0x20, NONE, false, 2, 16, 0);
-    seen(b"1810 282F 382E 0000", 0x08, 0, false, 2, 16, 2);
-}
-
-fn survey() {
-    show::begin(b"survey");
-    night(b"2d21 6122 9810 0000");
-    widest();
-    starts();
-    far();
-    oldest();
-    show::end();
-}
-
-fn one_number() {
-    let table = table_of(b"1234 5678 9abc deeF");
-    number(&table);
-}
-
-pub fn run() {
-    empty_row();
-    one_number();
-    put_row();
-    survey();
+pub fn survey(line: &[u8]) {
+    let table = table_of(line, 2);
+    let lent = text::number(line, 1) as usize;
+    if lent <= 4 {
+        return surveyed(&table[0..4 * lent], line);
+    }
+    show::not_asked();
 }

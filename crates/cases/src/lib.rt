@@ -1,4 +1,4 @@
-// What the programs of cases share: comparing what a function answered with what the paper says, and tables as text.
+// What the programs of cases share: the text of the cases, and comparing what a function answered with what the paper says.
 pub mod show;
 pub mod tables;
-pub mod within;
+pub mod text;

@@ -1,5 +1,4 @@
-// Printing, and comparing what a leaf answered with what the paper says. A comparison that fails prints both sides, but
-// for a table.
+// Printing, and comparing what a function answered with what the paper says. A comparison that fails prints both sides.
 use rules::Found;
 
 // Three numbers that are compared together: a status, a kind or region, and a value.
@@ -21,37 +20,29 @@ pub fn case(right: bool) {
     }
 }
 
-pub fn got() {
-    io::write_all(1, b" [got ");
-}
-
-pub fn not() {
-    io::write_all(1, b", not ");
-}
-
-pub fn close() {
-    io::write_all(1, b"]");
-}
-
-// Where the leaf could not be asked at all.
+// Where the function could not be asked at all.
 pub fn not_asked() {
     io::write_all(1, b" [got nothing, not an answer]");
-}
-
-fn hex(number: u64) {
-    io::print_hex(1, number, 1);
 }
 
 pub fn same_number(answered: u64, expected: u64) -> bool {
     if answered == expected {
         return true;
     }
-    got();
-    hex(answered);
-    not();
-    hex(expected);
-    close();
+    io::write_all(1, b" [got ");
+    io::print_hex(1, answered, 1);
+    io::write_all(1, b", not ");
+    io::print_hex(1, expected, 1);
+    io::write_all(1, b"]");
     false
+}
+
+pub fn same_number32(answered: u32, expected: u32) -> bool {
+    same_number(answered as u64, expected as u64)
+}
+
+pub fn same_number8(answered: u8, expected: u8) -> bool {
+    same_number(answered as u64, expected as u64)
 }
 
 // A case that is one number.
@@ -59,77 +50,13 @@ pub fn number(answered: u64, expected: u64) {
     case(same_number(answered, expected));
 }
 
-fn print_three(three: Three) {
-    hex(three.0);
-    io::write_all(1, b" ");
-    hex(three.1);
-    io::write_all(1, b" ");
-    hex(three.2);
-}
-
 pub fn same_three(answered: Three, expected: Three) -> bool {
-    if answered.0 == expected.0 {
-        if answered.1 == expected.1 {
-            if answered.2 == expected.2 {
-                return true;
-            }
-        }
-    }
-    got();
-    print_three(answered);
-    not();
-    print_three(expected);
-    close();
-    false
+    let first = same_number(answered.0, expected.0);
+    let second = same_number(answered.1, expected.1);
+    first & second & same_number(answered.2, expected.2)
 }
 
-fn print_bytes(bytes: &[u8]) {
-    let mut i = 0;
-    while i < bytes.len() {
-        hex_byte(bytes[i]);
-        i += 1;
-    }
-}
-
-fn hex_byte(byte: u8) {
-    io::print_hex(1, byte as u64, 2);
-}
-
-pub fn same_bytes(answered: &[u8], expected: &[u8]) -> bool {
-    if check::same(answered, expected) {
-        return true;
-    }
-    got();
-    print_bytes(answered);
-    not();
-    print_bytes(expected);
-    close();
-    false
-}
-
-fn equal_numbers(answered: &[u32], expected: &[u32]) -> bool {
-    if answered.len() != expected.len() {
-        return false;
-    }
-    let mut i = 0;
-    while i < answered.len() {
-        if answered[i] != expected[i] {
-            return false;
-        }
-        i += 1;
-    }
-    true
-}
-
-pub fn same_numbers(answered: &[u32], expected: &[u32]) -> bool {
-    if equal_numbers(answered, expected) {
-        return true;
-    }
-    io::write_all(1, b" [got other numbers]");
-    false
-}
-
-// What a search that finds nothing is printed as.
+// The number of a search that finds nothing.
 pub const NONE: u64 = 0xffff_ffff_ffff_ffff;
 
 fn number_of(found: Found) -> u64 {

@@ -1,48 +1,82 @@
-// Tables of four rows as text, a digit for each number and a space after each row: "2d10 6122 0000 0000" is the row (2, 13, 1, 0),
-// then (6, 1, 2, 2), then two empty ones. F stands for ffffffff, and E for fffffffe.
+// Tables of four rows, a word a row and a letter a number, and shadows of eight granules, a number of 16 digits: "2d10" is the row
+// (2, 13, 1, 0). F stands for ffffffff, E for fffffffe, G for 20000002, H for 1fffffff and I for 20000000.
 use crate::show;
+use crate::text;
 
-fn value_of(digit: u8) -> u32 {
-    if digit == b'F' {
+fn large(letter: u8) -> u32 {
+    if letter == b'F' {
         return 0xffff_ffff;
     }
-    if digit == b'E' {
+    if letter == b'E' {
         return 0xffff_fffe;
     }
-    if b'a' <= digit {
-        return digit as u32 - 87;
+    if letter == b'G' {
+        return 0x2000_0002;
     }
-    if b'0' <= digit {
-        return digit as u32 - 48;
+    if letter == b'H' {
+        return 0x1fff_ffff;
     }
-    show::not_asked();
-    0
+    0x2000_0000
 }
 
-fn digit_at(text: &[u8; 19], i: usize) -> u8 {
-    if i < 19 {
-        return text[i];
+fn value_of(letter: u8) -> u32 {
+    if b'a' <= letter {
+        return letter as u32 - 87;
     }
-    show::not_asked();
-    0
+    if b'A' <= letter {
+        return large(letter);
+    }
+    letter as u32 % 16
 }
 
 // Each four numbers stand in five bytes.
-pub fn table_of(text: &[u8; 19]) -> [u32; 16] {
+pub fn table_of(line: &[u8], word: usize) -> [u32; 16] {
     let mut table = [0u32; 16];
     let mut i = 0;
     while i < 16 {
-        table[i] = value_of(digit_at(text, 5 * i / 4));
+        table[i] = value_of(text::letter(line, word, 5 * i / 4));
         i += 1;
     }
     table
 }
 
-fn same_tables(answered: &[u32; 16], expected: &[u32; 16]) -> bool {
-    show::same_numbers(answered, expected)
+pub fn same_rows(table: &[u32; 16], line: &[u8], word: usize) -> bool {
+    let expected = table_of(line, word);
+    let mut same = true;
+    let mut i = 0;
+    while i < 16 {
+        same = same & show::same_number32(table[i], expected[i]);
+        i += 1;
+    }
+    same
 }
 
-pub fn same_rows(answered: &[u32; 16], text: &[u8; 19]) -> bool {
-    let expected = table_of(text);
-    same_tables(answered, &expected)
+pub fn shadow_of(number: u64) -> [u8; 8] {
+    let mut shadow = [0u8; 8];
+    let mut left = number;
+    let mut i = 8;
+    while 0 < i {
+        i -= 1;
+        shadow[i] = (left % 256) as u8;
+        left /= 256;
+    }
+    shadow
+}
+
+fn appended(number: u64, byte: u8) -> u64 {
+    number % 0x0100_0000_0000_0000 * 256 + byte as u64
+}
+
+fn number_of(shadow: &[u8; 8]) -> u64 {
+    let mut number = 0;
+    let mut i = 0;
+    while i < 8 {
+        number = appended(number, shadow[i]);
+        i += 1;
+    }
+    number
+}
+
+pub fn same_shadow(shadow: &[u8; 8], line: &[u8], word: usize) -> bool {
+    show::same_number(number_of(shadow), text::number(line, word))
 }

@@ -1,106 +1,104 @@
 // Frames out: each answer of the paper's table in numbers, and as the 13 bytes of a report.
+use crate::lines_cases::letters;
 use cases::show;
 use cases::show::Three;
-use cases::within;
+use cases::text;
 use rules::Answer;
 
-fn says(answer: Answer, status: u64, kind: u64, value: u64) {
-    let reply = answers::numbers_of(answer);
+// The paper's table from 21 on, by the number.
+fn of_calls(status: u64) -> Answer {
+    if status == 21 {
+        return Answer::BadShadowLength;
+    }
+    if status == 22 {
+        return Answer::BadRedzone;
+    }
+    if status == 23 {
+        return Answer::BadTableLength;
+    }
+    if status == 24 {
+        return Answer::BadSession;
+    }
+    if status == 31 {
+        return Answer::BeyondMap;
+    }
+    if status == 32 {
+        return Answer::InGap;
+    }
+    show::not_asked();
+    Answer::BadSession
+}
+
+// Its rows without a kind or a value.
+fn of_number(status: u64) -> Answer {
+    if status == 1 {
+        return Answer::BadLine;
+    }
+    if status == 2 {
+        return Answer::BadKind;
+    }
+    if status == 3 {
+        return Answer::NotZero;
+    }
+    if status == 5 {
+        return Answer::NoRow;
+    }
+    if status == 6 {
+        return Answer::NoPlace;
+    }
+    if status == 7 {
+        return Answer::NotHeld;
+    }
+    if status == 8 {
+        return Answer::Released;
+    }
+    of_calls(status)
+}
+
+fn answer_of(line: &[u8]) -> Answer {
+    let status = text::number(line, 1);
+    let value = text::number32(line, 3);
+    if status == 0 {
+        return Answer::Done { value };
+    }
+    if status == 9 {
+        let kind = text::number8(line, 2);
+        return Answer::NotGood { kind, first: value };
+    }
+    of_number(status)
+}
+
+fn expected(line: &[u8]) -> Three {
+    let status = text::number(line, 1);
+    let kind = text::number(line, 2);
+    Three(status, kind, text::number(line, 3))
+}
+
+pub fn numbers_of(line: &[u8]) {
+    let reply = answers::numbers_of(answer_of(line));
     let answered = Three(reply.status as u64, reply.kind as u64, reply.value as u64);
-    show::case(show::same_three(answered, Three(status, kind, value)));
+    show::case(show::same_three(answered, expected(line)));
 }
 
-// The table's rows to 09, which a line can be answered.
-fn of_lines() {
-    says(Answer::Done { value: 0 }, 0, 0, 0);
-    says(Answer::Done { value: 0xffff_ffff }, 0, 0, 0xffff_ffff);
-    says(Answer::BadLine, 1, 0, 0);
-    says(Answer::BadKind, 2, 0, 0);
-    says(Answer::NotZero, 3, 0, 0);
-    says(Answer::NoRow, 5, 0, 0);
-    says(Answer::NoPlace, 6, 0, 0);
-    says(Answer::NotHeld, 7, 0, 0);
-    says(Answer::Released, 8, 0, 0);
-    says(
-        Answer::NotGood {
-            kind: 0x05,
-            first: 0x1d,
-        },
-        9,
-        0x05,
-        0x1d,
-    );
-    says(
-        Answer::NotGood {
-            kind: 0xff,
-            first: 0xffff_ffff,
-        },
-        9,
-        0xff,
-        0xffff_ffff,
-    );
+fn within(part: &mut [u8], answer: Answer) {
+    if part.len() == 13 {
+        return answers::put_answer(part, answer);
+    }
+    show::not_asked();
 }
 
-// The rows from 21 on, whose numbers are decimal.
-fn of_calls() {
-    says(Answer::BadShadowLength, 21, 0, 0);
-    says(Answer::BadRedzone, 22, 0, 0);
-    says(Answer::BadTableLength, 23, 0, 0);
-    says(Answer::BadSession, 24, 0, 0);
-    says(Answer::BeyondMap, 31, 0, 0);
-    says(Answer::InGap, 32, 0, 0);
+fn same_bytes(part: &[u8; 13], expected: &[u8; 18]) -> bool {
+    let mut same = true;
+    let mut i = 0;
+    while i < 13 {
+        same = same & show::same_number8(part[i], expected[i]);
+        i += 1;
+    }
+    same
 }
 
-fn writes(answer: Answer, expected: &[u8; 13]) {
+pub fn put_answer(line: &[u8]) {
     let mut part = [0x7e; 13];
-    within::put_answer(&mut part, answer);
-    show::case(show::same_bytes(&part, expected));
-}
-
-// "Status (2), kind (2), value (8), lower case, line feed."
-fn reports() {
-    writes(Answer::Done { value: 0 }, b"000000000000\n");
-    writes(Answer::Done { value: 0x10 }, b"000000000010\n");
-    writes(Answer::Done { value: 0xffff_ffff }, b"0000ffffffff\n");
-    writes(Answer::Done { value: 0x89ab_cdef }, b"000089abcdef\n");
-    writes(Answer::BadLine, b"010000000000\n");
-    writes(Answer::Released, b"080000000000\n");
-    writes(
-        Answer::NotGood {
-            kind: 0x05,
-            first: 0x1d,
-        },
-        b"09050000001d\n",
-    );
-    writes(
-        Answer::NotGood {
-            kind: 0xfa,
-            first: 0x20,
-        },
-        b"09fa00000020\n",
-    );
-    writes(
-        Answer::NotGood {
-            kind: 0xff,
-            first: 0xffff_ffff,
-        },
-        b"09ffffffffff\n",
-    );
-}
-
-// "21 to 24 write no report", and the maps have no frames: no line ever shows these. Twenty-four is 18 in hex, thirty-two 20.
-fn unreported() {
-    writes(Answer::BadSession, b"180000000000\n");
-    writes(Answer::InGap, b"200000000000\n");
-}
-
-pub fn run() {
-    show::begin(b"numbers_of");
-    of_lines();
-    of_calls();
-    show::end();
-    show::begin(b"put_answer");
-    reports();
-    unreported();
-    show::end();
+    within(&mut part, answer_of(line));
+    show::case(same_bytes(&part, &letters(line, 4)));
 }

@@ -1,8 +1,40 @@
-// The range rule: the good and the bad side of every granule, of the arena's end and of the last address there is.
+// The shadow byte and the range rule.
 use cases::show;
 use cases::show::Three;
+use cases::text;
 use rules::Verdict;
+use shadow::byte;
 use shadow::range;
+
+pub fn leading(line: &[u8]) {
+    let answered = byte::leading(text::number8(line, 1));
+    show::number(answered as u64, text::number(line, 2));
+}
+
+fn reads(value: u8, expected: i8) {
+    let signed = byte::signed_byte(value);
+    if signed == expected {
+        return show::case(true);
+    }
+    if signed < expected {
+        io::write_all(1, b" [got less]");
+    } else {
+        io::write_all(1, b" [got more]");
+    }
+}
+
+// "The byte is read as a signed byte": from 80 on it is 256 less.
+pub fn signed_byte() {
+    reads(0x00, 0);
+    reads(0x7f, 127);
+    reads(0x80, -128);
+    reads(0xff, -1);
+}
+
+pub fn poisoned(line: &[u8]) {
+    let answered = byte::poisoned(text::number8(line, 1));
+    show::number(answered as u64, text::number(line, 2));
+}
 
 // 00 and zeros for a good range, or 09, the kind and the first bad byte.
 fn in_numbers(verdict: Verdict) -> Three {
@@ -12,192 +44,21 @@ fn in_numbers(verdict: Verdict) -> Three {
     }
 }
 
-fn good(shadow: &[u8], address: u32, length: u32) {
-    let verdict = range::judge(shadow, address, length);
-    show::case(show::same_three(in_numbers(verdict), Three(0, 0, 0)));
+fn judged(shadow: &[u8], line: &[u8]) -> Three {
+    let address = text::number32(line, 2);
+    let length = text::number32(line, 3);
+    in_numbers(range::judge(shadow, address, length))
 }
 
-fn bad(shadow: &[u8], address: u32, length: u32, kind: u8, first: u64) {
-    let verdict = range::judge(shadow, address, length);
-    show::case(show::same_three(in_numbers(verdict), Three(9, kind as u64, first)));
+fn expected(line: &[u8]) -> Three {
+    let status = text::number(line, 4);
+    let kind = text::number(line, 5);
+    Three(status, kind, text::number(line, 6))
 }
 
-// Bytes 00 to 0c and 20 to 27 are addressable; the arena ends at 28.
-fn granules(shadow: &[u8]) {
-    good(shadow, 0x00, 0x01);
-    good(shadow, 0x00, 0x08);
-    good(shadow, 0x07, 0x01);
-    good(shadow, 0x08, 0x01);
-    good(shadow, 0x07, 0x02);
-    good(shadow, 0x00, 0x0d);
-    bad(shadow, 0x00, 0x0e, 0x05, 0x0d);
-    good(shadow, 0x0c, 0x01);
-    bad(shadow, 0x0d, 0x01, 0x05, 0x0d);
-    bad(shadow, 0x0c, 0x02, 0x05, 0x0d);
-    bad(shadow, 0x0f, 0x01, 0x05, 0x0f);
-    bad(shadow, 0x0f, 0x02, 0x05, 0x0f);
-    bad(shadow, 0x10, 0x01, 0xfa, 0x10);
-    bad(shadow, 0x17, 0x01, 0xfa, 0x17);
-    bad(shadow, 0x17, 0x02, 0xfa, 0x17);
-    bad(shadow, 0x18, 0x01, 0xfd, 0x18);
-    bad(shadow, 0x1f, 0x01, 0xfd, 0x1f);
-    bad(shadow, 0x1f, 0x02, 0xfd, 0x1f);
-    good(shadow, 0x20, 0x01);
-}
-
-// "Or kind ff where that byte is outside the arena."
-fn ends(shadow: &[u8]) {
-    good(shadow, 0x20, 0x08);
-    bad(shadow, 0x20, 0x09, 0xff, 0x28);
-    good(shadow, 0x27, 0x01);
-    bad(shadow, 0x27, 0x02, 0xff, 0x28);
-    bad(shadow, 0x28, 0x01, 0xff, 0x28);
-    bad(shadow, 0x29, 0x01, 0xff, 0x29);
-    bad(shadow, 0xffff_ffff, 0x01, 0xff, 0xffff_ffff);
-    bad(shadow, 0xffff_ffff, 0xffff_ffff, 0xff, 0xffff_ffff);
-    bad(shadow, 0x00, 0xffff_ffff, 0x05, 0x0d);
-    bad(shadow, 0x20, 0xffff_ffff, 0xff, 0x28);
-    bad(shadow, 0x28, 0xffff_ffff, 0xff, 0x28);
-}
-
-// "n = 0 touches nothing and is good at any address."
-fn nothing_touched(shadow: &[u8]) {
-    good(shadow, 0x00, 0x00);
-    good(shadow, 0x0c, 0x00);
-    good(shadow, 0x0d, 0x00);
-    good(shadow, 0x10, 0x00);
-    good(shadow, 0x27, 0x00);
-    good(shadow, 0x28, 0x00);
-    good(shadow, 0xffff_ffff, 0x00);
-}
-
-// "Whole numbers that don't wrap": in 32 bits the first five end in the addressable bytes. The last two are addresses
-// whose lower bits alone are of good bytes.
-fn sums(shadow: &[u8]) {
-    bad(shadow, 0xffff_ffff, 0x02, 0xff, 0xffff_ffff);
-    bad(shadow, 0xffff_fff8, 0x08, 0xff, 0xffff_fff8);
-    bad(shadow, 0xffff_fff8, 0x10, 0xff, 0xffff_fff8);
-    bad(shadow, 0xffff_ffe8, 0x20, 0xff, 0xffff_ffe8);
-    bad(shadow, 0x8000_0000, 0x8000_0001, 0xff, 0x8000_0000);
-    bad(shadow, 0x2000_0000, 0x01, 0xff, 0x2000_0000);
-    bad(shadow, 0x8000_0008, 0x01, 0xff, 0x8000_0008);
-}
-
-// "Values 08 to 7f are never written; if found, no byte is addressable." 80 is the lowest negative byte.
-fn kinds(shadow: &[u8]) {
-    bad(shadow, 0x00, 0x01, 0x08, 0x00);
-    bad(shadow, 0x07, 0x01, 0x08, 0x07);
-    bad(shadow, 0x08, 0x01, 0x7f, 0x08);
-    bad(shadow, 0x0f, 0x02, 0x7f, 0x0f);
-    bad(shadow, 0x10, 0x01, 0x80, 0x10);
-    bad(shadow, 0x17, 0x02, 0x80, 0x17);
-    good(shadow, 0x18, 0x07);
-    bad(shadow, 0x18, 0x08, 0x07, 0x1f);
-    good(shadow, 0x1e, 0x01);
-    bad(shadow, 0x1e, 0x02, 0x07, 0x1f);
-    bad(shadow, 0x1f, 0x02, 0x07, 0x1f);
-    good(shadow, 0x20, 0x01);
-    bad(shadow, 0x20, 0x02, 0x01, 0x21);
-    bad(shadow, 0x27, 0x01, 0x01, 0x27);
-    bad(shadow, 0x28, 0x01, 0xff, 0x28);
-    bad(shadow, 0x30, 0x01, 0xf9, 0x30);
-}
-
-// Good granules are crossed; a partial one ends the good bytes even where the next granule is whole.
-fn crossings(shadow: &[u8]) {
-    good(shadow, 0x00, 0x1c);
-    bad(shadow, 0x00, 0x1d, 0x04, 0x1c);
-    good(shadow, 0x06, 0x04);
-    good(shadow, 0x07, 0x0a);
-    good(shadow, 0x17, 0x05);
-    bad(shadow, 0x17, 0x06, 0x04, 0x1c);
-    bad(shadow, 0x18, 0x09, 0x04, 0x1c);
-    good(shadow, 0x1b, 0x01);
-    bad(shadow, 0x1c, 0x01, 0x04, 0x1c);
-}
-
-fn no_granule(shadow: &[u8]) {
-    good(shadow, 0x00, 0x00);
-    good(shadow, 0xffff_ffff, 0x00);
-    bad(shadow, 0x00, 0x01, 0xff, 0x00);
-    bad(shadow, 0x07, 0x01, 0xff, 0x07);
-    bad(shadow, 0x00, 0xffff_ffff, 0xff, 0x00);
-}
-
-// Lines 2, 3, 6, 13, 14 and 15 of the night, in the shadow that each of them finds.
-fn night() {
-    let first = [
-        0xfa,
-        0xfa,
-        0x00,
-        0x05,
-        0xfa,
-        0xfa,
-        0xfa,
-        0xfa,
-        0xfa,
-        0xfa,
-        0xfa,
-        0xfa,
-        0xfa,
-        0xfa,
-        0xfa,
-        0xfa,
-    ];
-    good(&first, 0x10, 0x0d);
-    bad(&first, 0x1c, 0x02, 0x05, 0x1d);
-    let released = [
-        0xfa,
-        0xfa,
-        0xfd,
-        0xfd,
-        0xfa,
-        0xfa,
-        0x01,
-        0xfa,
-        0xfa,
-        0xfa,
-        0xfa,
-        0xfa,
-        0xfa,
-        0xfa,
-        0xfa,
-        0xfa,
-    ];
-    bad(&released, 0x10, 0x01, 0xfd, 0x10);
-    let last = [
-        0xfa,
-        0xfa,
-        0x00,
-        0x00,
-        0xfa,
-        0xfa,
-        0xfd,
-        0xfa,
-        0xfa,
-        0xfd,
-        0xfa,
-        0xfa,
-        0xfa,
-        0xfa,
-        0xfa,
-        0xfa,
-    ];
-    bad(&last, 0x1c, 0x08, 0xfa, 0x20);
-    bad(&last, 0x80, 0x01, 0xff, 0x80);
-    good(&last, 0xffff_ffff, 0x00);
-}
-
-pub fn run() {
-    show::begin(b"judge");
-    let shadow = [0x00, 0x05, 0xfa, 0xfd, 0x00];
-    granules(&shadow);
-    ends(&shadow);
-    nothing_touched(&shadow);
-    sums(&shadow);
-    kinds(&[0x08, 0x7f, 0x80, 0x07, 0x01, 0xff, 0xf9]);
-    crossings(&[0x00, 0x00, 0x00, 0x04, 0x00]);
-    no_granule(&shadow[0..0]);
-    night();
-    show::end();
+pub fn judge(line: &[u8]) {
+    let shadow = text::bytes_of(line, 1);
+    let granules = text::bytes_in(line, 1);
+    let answered = judged(&shadow[0..granules], line);
+    show::case(show::same_three(answered, expected(line)));
 }

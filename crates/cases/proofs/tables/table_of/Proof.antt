@@ -1,23 +1,23 @@
 -- `cases::tables::table_of` meets its contract. The invariant: i is at most 16. The measure is what is left of that. Assumes nothing.
-use Prim.Native.Nat.{_≤_, _-_}
+use Prim.Native.Nat.{_-_, _≤_}
 use borrow.Author.Needs.{needs}
 use Rattle.cases.proofs.tables.table_of.Statement.{statement}
 use Rattle.cases.proofs.tables.table_of.Tie as tie
 
 abbrev Inv-loop : tie.InvT-loop
-Inv-loop text table₀ i₀ table i = i ≤ 16
+Inv-loop line word table₀ i₀ table i = i ≤ 16
 
 abbrev μ-loop : tie.MeasureT-loop
-μ-loop text table₀ i₀ table i = 16 - i
+μ-loop line word table₀ i₀ table i = 16 - i
 
 loop-holds : tie.Need-loop-holds Inv-loop μ-loop
 loop-holds c = search needs
 
-mul-digit-at : tie.Need-mul-digit-at Inv-loop μ-loop
-mul-digit-at c = search needs
+mul-letter : tie.Need-mul-letter Inv-loop μ-loop
+mul-letter c = search needs
 
-digit-at-requires : tie.Need-digit-at-requires Inv-loop μ-loop
-digit-at-requires c κs = search needs
+letter-requires : tie.Need-letter-requires Inv-loop μ-loop
+letter-requires c κs = search needs
 
 value-of-requires : tie.Need-value-of-requires Inv-loop μ-loop
 value-of-requires c κs = search needs
@@ -47,8 +47,8 @@ table-of-spec =
     Inv-loop
     μ-loop
     loop-holds
-    mul-digit-at
-    digit-at-requires
+    mul-letter
+    letter-requires
     value-of-requires
     mul-table
     array-write-table

@@ -1,21 +1,20 @@
--- `shadow_cases::room_cases::scatter` meets its contract. The invariant: the granule is at most five past the last one. The measure is
--- what is left of those. Assumes nothing.
-use Prim.Native.Nat.{_≤_, _-_}
+-- `shadow_cases::room_cases::scatter` meets its contract. The invariant: no granule held lies more than five past the last. The measure is what is left to there. Assumes nothing.
+use Prim.Native.Nat.{_-_, _≤_}
 use borrow.Author.Needs.{needs}
 use Rattle.shadow_cases.proofs.room_cases.scatter.Statement.{statement}
 use Rattle.shadow_cases.proofs.room_cases.scatter.Tie as tie
 
 abbrev Inv-loop : tie.InvT-loop
-Inv-loop shadow₀ granule₀ shadow granule = granule ≤ 65541
+Inv-loop shadow₀ granule₀ shadow granule = granule ≤ 65540
 
 abbrev μ-loop : tie.MeasureT-loop
-μ-loop shadow₀ granule₀ shadow granule = 65541 - granule
+μ-loop shadow₀ granule₀ shadow granule = 65540 - granule
 
 loop-holds : tie.Need-loop-holds Inv-loop μ-loop
 loop-holds c = search needs
 
-row-requires : tie.Need-row-requires Inv-loop μ-loop
-row-requires c κs = search needs
+element-write-shadow : tie.Need-element-write-shadow Inv-loop μ-loop
+element-write-shadow c = search needs
 
 add-granule : tie.Need-add-granule Inv-loop μ-loop
 add-granule c = search needs
@@ -32,4 +31,12 @@ returns c = search needs
 pub scatter-spec : {M : Type 1} → statement M
 scatter-spec =
     tie.close
-    (tie.spec Inv-loop μ-loop loop-holds row-requires add-granule loop-less loop-again returns)
+    (tie.spec
+    Inv-loop
+    μ-loop
+    loop-holds
+    element-write-shadow
+    add-granule
+    loop-less
+    loop-again
+    returns)

@@ -1,8 +1,10 @@
--- `cases::within::put_row` meets its contract: the test before the call is what the leaf asks. Assumes nothing.
+-- `blocks_cases::rows_cases::put_within` meets its contract: the test before the call is what the function asks. Assumes nothing.
 use Rattle.rules.specs.Table.{rows}
 use borrow.Author.Needs.{needs}
-use Rattle.cases.proofs.within.put_row.Statement.{statement}
-use Rattle.cases.proofs.within.put_row.Tie as tie
+use Rattle.rules.specs.Table.{rows}
+use borrow.Author.Needs.{needs}
+use Rattle.blocks_cases.proofs.rows_cases.put_within.Statement.{statement}
+use Rattle.blocks_cases.proofs.rows_cases.put_within.Tie as tie
 
 put-row-requires : tie.Need-put-row-requires
 unfolding rows
@@ -20,6 +22,6 @@ not-asked-requires c κs = search needs
 returns-2 : tie.Need-returns-2
 returns-2 c = search needs
 
-pub put-row-spec : {M : Type 1} → statement M
-put-row-spec =
+pub put-within-spec : {M : Type 1} → statement M
+put-within-spec =
     tie.close (tie.spec put-row-requires same-length returns not-asked-requires returns-2)

@@ -1,8 +1,10 @@
--- `cases::within::evict` meets its contract: the test before the call is what the leaf asks. Assumes nothing.
+-- `blocks_cases::release_cases::evict_within` meets its contract: the test before the call is what the function asks. Assumes nothing.
 use Rattle.rules.specs.Table.{rows}
 use borrow.Author.Needs.{needs}
-use Rattle.cases.proofs.within.evict.Statement.{statement}
-use Rattle.cases.proofs.within.evict.Tie as tie
+use Rattle.rules.specs.Table.{rows}
+use borrow.Author.Needs.{needs}
+use Rattle.blocks_cases.proofs.release_cases.evict_within.Statement.{statement}
+use Rattle.blocks_cases.proofs.release_cases.evict_within.Tie as tie
 
 evict-requires : tie.Need-evict-requires
 unfolding rows
@@ -23,7 +25,7 @@ not-asked-requires c κs = search needs
 returns-2 : tie.Need-returns-2
 returns-2 c = search needs
 
-pub evict-spec : {M : Type 1} → statement M
-evict-spec =
+pub evict-within-spec : {M : Type 1} → statement M
+evict-within-spec =
     tie.close
     (tie.spec evict-requires same-length same-length-2 returns not-asked-requires returns-2)
