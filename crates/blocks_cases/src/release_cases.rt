@@ -11,13 +11,13 @@ use rules::Found;
 
 pub fn lessen(line: &[u8]) {
     let mut table = table_of(line, 1);
-    let next = show::same_found(quarantine::lessen(&mut table), text::number(line, 5));
+    let next = show::same_found(evictions::lessen(&mut table), text::number(line, 5));
     show::case(next & same_rows(&table, line, 6));
 }
 
 fn evict_within(shadow: &mut [u8], table: &mut [u32], row: usize) -> Found {
     if row < table.len() / 4 {
-        return quarantine::evict(shadow, table, row);
+        return evictions::evict(shadow, table, row);
     }
     show::not_asked();
     Found::Nothing

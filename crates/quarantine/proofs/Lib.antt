@@ -1,3 +1,2 @@
--- The row that enters the quarantine, and evictions, one at a time.
+-- The row that enters the quarantine.
 pub mod Entering
-pub mod Settling

@@ -1,2 +1,2 @@
--- What the functions over the quarantine leave, and what they ask of their callers.
+-- What the functions that put a row into the quarantine leave, and what they ask of their callers.
 pub mod Quarantine

@@ -16,7 +16,8 @@ use Rattle.rules.specs.Release.{weight, weights, oldest, Pool, paint-row, quara
 use Rattle.rules.proofs.Lowest.{answered-one}
 use Rattle.rules.proofs.Table.{below-same}
 use Rattle.rules.proofs.Release.{oldest-some, in-quarantine-most, weights-most, quarantine-row-weights}
-use Rattle.quarantine.specs.Quarantine.{pool, first-to-leave}
+use Rattle.evictions.specs.Evictions.{pool}
+use Rattle.quarantine.specs.Quarantine.{first-to-leave}
 use Rattle.blocks.proofs.Survey.{rows-most, weights-fit}
 use Rattle.quarantine.proofs.Entering.{entered-oldest}
 use Rattle.quarantine.proofs.quarantine_row.Statement.{statement}

@@ -15,7 +15,7 @@ use Rattle.rules.proofs.Tests.{by-found}
 use Rattle.rules.proofs.Lowest.{answered-one, answered-nothing}
 use Rattle.rules.proofs.Release.{StartsAt, row-at-some, release-nothing, release-done, release-twice, release-foreign}
 use Rattle.blocks.specs.Survey.{survey}
-use Rattle.quarantine.specs.Quarantine.{pool}
+use Rattle.evictions.specs.Evictions.{pool}
 use Rattle.quarantine.proofs.release.Statement.{statement}
 use Rattle.quarantine.proofs.release.Tie as tie
 

@@ -1,4 +1,4 @@
--- `quarantine::evict` meets its contract: the row is painted over, emptied, and the turns are lessened. Assumes nothing.
+-- `evictions::evict` meets its contract: the row is painted over, emptied, and the turns are lessened. Assumes nothing.
 use mathlib.Core.Path.{ap₂, _∙_}
 use denote.Ref.{now}
 use borrow.Author.Needs.{needs}
@@ -8,9 +8,9 @@ use Rattle.rules.specs.Table.{put-row, lessened}
 use Rattle.rules.specs.Grant.{granules}
 use Rattle.rules.specs.Release.{paint-row, evict-row}
 use Rattle.rules.proofs.Table.{rows-same}
-use Rattle.quarantine.specs.Quarantine.{pool}
-use Rattle.quarantine.proofs.evict.Statement.{statement}
-use Rattle.quarantine.proofs.evict.Tie as tie
+use Rattle.evictions.specs.Evictions.{pool}
+use Rattle.evictions.proofs.evict.Statement.{statement}
+use Rattle.evictions.proofs.evict.Tie as tie
 
 number-requires : tie.Need-number-requires
 number-requires c κs = search needs

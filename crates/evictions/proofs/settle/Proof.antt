@@ -1,4 +1,4 @@
--- `quarantine::settle` meets its contract. The invariant is `Settling`: the weights and the row to evict next are known, and
+-- `evictions::settle` meets its contract. The invariant is `Settling`: the weights and the row to evict next are known, and
 -- what is left to do is what was to do, less what is done. The measure is the number of quarantined rows. Assumes nothing.
 use Prim.Native.Nat.{_+_, _-_}
 use native.Mathlib.Omega.{arith}
@@ -8,11 +8,11 @@ use borrow.Author.Needs.{needs}
 use Rattle.rules.specs.Table.{rows, size}
 use Rattle.rules.specs.Release.{in-quarantine, weight, Pool}
 use Rattle.rules.proofs.Release.{Oldest}
-use Rattle.quarantine.specs.Quarantine.{pool}
+use Rattle.evictions.specs.Evictions.{pool}
 use Rattle.blocks.proofs.Survey.{rows-most}
-use Rattle.quarantine.proofs.Settling.{Settling, settling-start, settling-done, settling-never, settling-count, settling-row, settling-weight, settling-less, settling-next}
-use Rattle.quarantine.proofs.settle.Statement.{statement}
-use Rattle.quarantine.proofs.settle.Tie as tie
+use Rattle.evictions.proofs.Settling.{Settling, settling-start, settling-done, settling-never, settling-count, settling-row, settling-weight, settling-less, settling-next}
+use Rattle.evictions.proofs.settle.Statement.{statement}
+use Rattle.evictions.proofs.settle.Tie as tie
 
 abbrev Inv-loop : tie.InvT-loop
 Inv-loop shadow₀ table₀ redzone quarantine weight₀ oldest₀ evicted₀ limit shadow table weight oldest evicted =

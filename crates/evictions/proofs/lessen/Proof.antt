@@ -1,4 +1,4 @@
--- `quarantine::lessen` meets its contract. The invariant: the turns of the rows before `row` are lessened, and `oldest` is the
+-- `evictions::lessen` meets its contract. The invariant: the turns of the rows before `row` are lessened, and `oldest` is the
 -- oldest of them. The measure is what is left of the rows. Assumes nothing.
 use Prim.Native.Nat.{ℕ, suc, _+_, _-_, _*_, _/_, _≤_, _<_}
 use native.Mathlib.Nat.{le-refl}
@@ -15,8 +15,8 @@ use Rattle.rules.specs.Table as table
 use Rattle.rules.specs.Release as release
 use Rattle.rules.proofs.Table.{rows-same, below-same, length-lessened, turn-kept}
 use Rattle.rules.proofs.Release.{oldest-lessened}
-use Rattle.quarantine.proofs.lessen.Statement.{statement}
-use Rattle.quarantine.proofs.lessen.Tie as tie
+use Rattle.evictions.proofs.lessen.Statement.{statement}
+use Rattle.evictions.proofs.lessen.Tie as tie
 
 abbrev Inv-loop : tie.InvT-loop
 Inv-loop table₀ rows oldest₀ row₀ table oldest row =

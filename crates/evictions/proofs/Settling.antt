@@ -13,8 +13,8 @@ use Rattle.rules.specs.Table.{rows, size}
 use Rattle.rules.specs.Release.{in-quarantine, weight, weights, oldest, Pool, evict-row, evict-oldest, and-one-more, settle}
 use Rattle.rules.proofs.Lowest.{answered-one, answered-nothing}
 use Rattle.rules.proofs.Release.{Oldest, oldest-some, some-oldest, evict-row-length, evict-row-shadow, paint-row-length, evict-row-weights, evict-oldest-is, evict-oldest-count, evicted-most, settle-done, settle-more}
-use Rattle.quarantine.specs.declared.Held.{Held}
-use Rattle.quarantine.specs.Quarantine.{settled, Next, Evicted, Weighed}
+use Rattle.evictions.specs.declared.Held.{Held}
+use Rattle.evictions.specs.Evictions.{settled, Next, Evicted, Weighed}
 
 -- between two evictions: as long as at the start, the weights and the next row known, and what is left to do is what was to do, less
 -- what is done

@@ -1,0 +1,2 @@
+-- Evictions, one at a time.
+pub mod Settling

@@ -1,0 +1,2 @@
+-- What the evictions leave, and what they ask of their callers.
+pub mod Evictions
