@@ -1,4 +1,5 @@
--- `shadow_cases::walk` meets its contract. The invariant: `from` is at most one past the text's end. The measure is what is left to there. Assumes nothing.
+-- `shadow_cases::walk` meets its contract. The invariant: `from` is at most one past the text's end. The measure is what is left to
+-- there. Assumes nothing.
 use Prim.Native.Nat.{_+_, _-_, _≤_}
 use lib.ListN.{length}
 use borrow.Author.Needs.{needs}

@@ -1,4 +1,5 @@
--- `cases::tables::table_of` meets its contract. The invariant: i is at most 16. The measure is what is left of that. Assumes nothing.
+-- `cases::tables::table_of` meets its contract. The invariant: i is at most 16. The measure is what is left of that. Assumes
+-- nothing.
 use Prim.Native.Nat.{_-_, _≤_}
 use borrow.Author.Needs.{needs}
 use Rattle.cases.proofs.tables.table_of.Statement.{statement}

@@ -1,4 +1,5 @@
--- `cases::text::end_of` meets its contract. The invariant: `to` is between where the line begins and the text's end. The measure is what is left of the text. Assumes nothing.
+-- `cases::text::end_of` meets its contract. The invariant: `to` is between where the line begins and the text's end. The measure is
+-- what is left of the text. Assumes nothing.
 use Prim.Native.Nat.{_-_, _≤_}
 use lib.ListN.{length}
 use borrow.Author.Needs.{needs}

@@ -1,4 +1,5 @@
--- `frames_cases::answers_cases::same_bytes` meets its contract. The invariant: i is at most 13. The measure is what is left of that. Assumes nothing.
+-- `frames_cases::answers_cases::same_bytes` meets its contract. The invariant: i is at most 13. The measure is what is left of
+-- that. Assumes nothing.
 use Prim.Native.Nat.{_-_, _≤_}
 use borrow.Author.Needs.{needs}
 use Rattle.frames_cases.proofs.answers_cases.same_bytes.Statement.{statement}

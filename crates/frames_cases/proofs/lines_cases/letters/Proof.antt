@@ -1,4 +1,5 @@
--- `frames_cases::lines_cases::letters` meets its contract. The invariant: i is at most 18. The measure is what is left of that. Assumes nothing.
+-- `frames_cases::lines_cases::letters` meets its contract. The invariant: i is at most 18. The measure is what is left of that.
+-- Assumes nothing.
 use Prim.Native.Nat.{_-_, _≤_}
 use borrow.Author.Needs.{needs}
 use Rattle.frames_cases.proofs.lines_cases.letters.Statement.{statement}

@@ -1,4 +1,5 @@
--- `shadow_cases::room_cases::scatter` meets its contract. The invariant: no granule held lies more than five past the last. The measure is what is left to there. Assumes nothing.
+-- `shadow_cases::room_cases::scatter` meets its contract. The invariant: no granule held lies more than five past the last. The
+-- measure is what is left to there. Assumes nothing.
 use Prim.Native.Nat.{_-_, _≤_}
 use borrow.Author.Needs.{needs}
 use Rattle.shadow_cases.proofs.room_cases.scatter.Statement.{statement}
