@@ -1,0 +1,32 @@
+// Rows: one, and 1,024; 05 comes before 06; a quarantined row is not empty, an evicted one is.
+use crate::pool;
+use cases::print;
+use rules::Session;
+
+// Of 1,024 rows, 1,023 are live and the last one is empty: number 4,094 is its state.
+fn most_rows() {
+    let mut shadow = [0x7e; 16];
+    let mut table = [7u32; 4096];
+    let opened = watcher::open(&mut shadow, &mut table, 2, 16);
+    let mut live = [1u32; 4096];
+    live[4094] = 0;
+    grant_twice(opened.session, &mut shadow, &mut live);
+}
+
+fn grant_twice(session: Session, shadow: &mut [u8; 16], table: &mut [u32; 4096]) {
+    print::begin(b"1,024 rows, the last one empty");
+    print::answer(b"grant ", watcher::grant(session, shadow, table, 1));
+    print::answer(b", grant ", watcher::grant(session, shadow, table, 1));
+    print::left(shadow, table);
+}
+
+pub fn run() {
+    pool::ask_each(
+        b"one row, a second grant|16 1 2 16 27|010000000100000000\n010000000100000000\n;\
+            one row, no place|16 1 2 16 14|010000006100000000\n;\
+            one row, neither row nor place|16 1 2 16 27|010000000100000000\n010000006100000000\n;\
+            one row, a grant after a release|16 1 2 16 40|010000000100000000\n020000001000000000\n010000000100000000\n;\
+            one row, a grant after an eviction|16 1 2 0 40|010000000100000000\n020000001000000000\n010000000100000000\n;",
+    );
+    most_rows();
+}
