@@ -39,12 +39,12 @@ fn accesses(words: &[u8], shadow: &[u8], address: u32, length: u32) {
 // Address, length; shadow.
 pub fn ask(case: &[u8]) {
     let numbers = fields::rest(case);
-    let n = fields::numbers(numbers);
+    let given = fields::numbers(numbers);
     accesses(
         fields::first(case),
         fields::rest(numbers),
-        fields::small(n[0]),
-        fields::small(n[1]),
+        fields::small(given[0]),
+        fields::small(given[1]),
     );
 }
 

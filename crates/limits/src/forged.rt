@@ -54,16 +54,16 @@ fn asked(words: &[u8], session: Session, granules: usize, numbers: usize) {
 // zero.
 pub fn ask(case: &[u8]) {
     let numbers = fields::rest(case);
-    let n = fields::numbers(numbers);
+    let given = fields::numbers(numbers);
     let session = Session {
-        granules: n[0],
-        rows: n[1],
-        redzone: n[2],
-        quarantine: fields::small(n[3]),
-        unfinished: n[4],
+        granules: given[0],
+        rows: given[1],
+        redzone: given[2],
+        quarantine: fields::small(given[3]),
+        unfinished: given[4],
         line: line_of(fields::rest(numbers)),
     };
-    asked(fields::first(case), session, n[5], n[6]);
+    asked(fields::first(case), session, given[5], given[6]);
 }
 
 fn line_of(places: &[u8]) -> [u8; 18] {

@@ -33,8 +33,14 @@ fn opened(words: &[u8], granules: usize, numbers: usize, redzone: usize, quarant
 
 // Granules, numbers, redzone, quarantine.
 pub fn ask(case: &[u8]) {
-    let n = fields::numbers(fields::rest(case));
-    opened(fields::first(case), n[0], n[1], n[2], fields::small(n[3]));
+    let given = fields::numbers(fields::rest(case));
+    opened(
+        fields::first(case),
+        given[0],
+        given[1],
+        given[2],
+        fields::small(given[3]),
+    );
 }
 
 fn ask_each(cases: &[u8]) {

@@ -71,15 +71,15 @@ fn fed(
 // Granules, rows, redzone, quarantine, room; piece.
 pub fn ask(case: &[u8]) {
     let numbers = fields::rest(case);
-    let n = fields::numbers(numbers);
+    let given = fields::numbers(numbers);
     fed(
         fields::first(case),
-        n[0],
-        n[1],
-        n[2],
-        fields::small(n[3]),
+        given[0],
+        given[1],
+        given[2],
+        fields::small(given[3]),
         fields::rest(numbers),
-        n[4],
+        given[4],
     );
 }
 

@@ -3,20 +3,21 @@ use crate::pool;
 use cases::print;
 use rules::Session;
 
-// Of 1,024 rows, 1,023 are live and the last one is empty: number 4,094 is its state.
+// Of 1,024 rows, 1,023 are live and the last one is empty, since number 4,094, its state, is 0. The block goes to address 10.
 fn most_rows() {
     let mut shadow = [0x7e; 16];
     let mut table = [7u32; 4096];
     let opened = watcher::open(&mut shadow, &mut table, 2, 16);
     let mut live = [1u32; 4096];
     live[4094] = 0;
-    grant_twice(opened.session, &mut shadow, &mut live);
+    grant_and_release(opened.session, &mut shadow, &mut live);
 }
 
-fn grant_twice(session: Session, shadow: &mut [u8; 16], table: &mut [u32; 4096]) {
+fn grant_and_release(session: Session, shadow: &mut [u8; 16], table: &mut [u32; 4096]) {
     print::begin(b"1,024 rows, the last one empty");
     print::answer(b"grant ", watcher::grant(session, shadow, table, 1));
     print::answer(b", grant ", watcher::grant(session, shadow, table, 1));
+    print::answer(b", release ", watcher::release(session, shadow, table, 16));
     print::left(shadow, table);
 }
 

@@ -42,18 +42,18 @@ fn shadow_of(bytes: &[u8]) -> [u8; 8] {
 // Quarantine, room; shadow; rows; piece.
 pub fn ask(case: &[u8]) {
     let numbers = fields::rest(case);
-    let n = fields::numbers(numbers);
+    let given = fields::numbers(numbers);
     let found = fields::rest(numbers);
     let rows = fields::rest(found);
     let mut shadow = shadow_of(found);
     let mut table = table_of(rows, 0);
     feed(
         fields::first(case),
-        session_with(fields::small(n[0])),
+        session_with(fields::small(given[0])),
         &mut shadow,
         &mut table,
         fields::rest(rows),
-        n[1],
+        given[1],
     );
 }
 

@@ -36,8 +36,13 @@ fn granted(words: &[u8], granules: usize, redzone: usize, size: u32) {
 
 // Granules, redzone, size.
 pub fn ask(case: &[u8]) {
-    let n = fields::numbers(fields::rest(case));
-    granted(fields::first(case), n[0], n[1], fields::small(n[2]));
+    let given = fields::numbers(fields::rest(case));
+    granted(
+        fields::first(case),
+        given[0],
+        given[1],
+        fields::small(given[2]),
+    );
 }
 
 // 8 (S - 2R) bytes is the largest block; 2^32 - 1 bytes are 2^29 granules. The smallest shadow that takes one granule has 2R + 1.
