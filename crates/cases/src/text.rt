@@ -1,4 +1,4 @@
-// The text of the cases, which a program of cases reads: a line is a letter that says what is tried, then words with one space
+// The text of the cases, which a program of cases reads: a line is a word that says what is tried, then words with one space
 // between them, what is given and what the paper says. Numbers are in hex, "-" is the number of nothing found, and a table is
 // four words, a row a word and a letter a number.
 use crate::show;
