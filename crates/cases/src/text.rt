@@ -5,15 +5,15 @@ use crate::show;
 ghost use Prim.Native.Nat.{_≤_};
 ghost use lib.ListN.{length};
 
-// Where the line that begins at `from` ends.
-pub fn end_of(text: &[u8], from: usize) -> usize
+// Where the mark first stands at or after `from`, or the end: the mark of a line is its line feed.
+pub fn mark_at(text: &[u8], from: usize, mark: u8) -> usize
     requires { ⌜ from ≤ length (now text) ⌝ }
     ensures { λ r. ⌜ from ≤ r ⌝ }
     ensures { λ r. ⌜ r ≤ length (now (text .entry)) ⌝ }
 {
     let mut to = from;
     while to < text.len() {
-        if text[to] == b'\n' {
+        if text[to] == mark {
             return to;
         }
         to += 1;

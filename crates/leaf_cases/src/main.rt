@@ -36,7 +36,7 @@ fn one(line: &[u8]) {
 fn walk(text: &[u8]) {
     let mut from = 0;
     while from < text.len() {
-        let to = text::end_of(text, from);
+        let to = text::mark_at(text, from, b'\n');
         let line = &text[from..to];
         if text::is_case(line) {
             one(line);

@@ -1,31 +1,15 @@
 // Cases as text: a section is cases with a semicolon after each, a case is fields with a bar between them. So a case costs the
 // check nothing, where a call for each would cost it a third of a second.
 use cases::show;
-ghost use Prim.Native.Nat.{_≤_};
-ghost use lib.ListN.{length};
-
-// Where the mark first stands at or after `from`, or the end.
-pub fn mark_at(text: &[u8], from: usize, mark: u8) -> usize
-    requires { ⌜ from ≤ length (now text) ⌝ }
-    ensures { λ r. ⌜ (from ≤ r) × (r ≤ length (now (text .entry))) ⌝ }
-{
-    let mut i = from;
-    while i < text.len() {
-        if text[i] == mark {
-            return i;
-        }
-        i += 1;
-    }
-    i
-}
+use cases::text;
 
 pub fn first(fields: &[u8]) -> &[u8] {
-    let end = mark_at(fields, 0, b'|');
+    let end = text::mark_at(fields, 0, b'|');
     &fields[0..end]
 }
 
 pub fn rest(fields: &[u8]) -> &[u8] {
-    let end = mark_at(fields, 0, b'|');
+    let end = text::mark_at(fields, 0, b'|');
     if end < fields.len() {
         let from = end + 1;
         return &fields[from..];

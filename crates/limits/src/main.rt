@@ -12,6 +12,8 @@ mod rows;
 mod scribbled;
 mod sizes;
 
+use cases::text;
+
 // What the cases of a section ask.
 pub enum Section {
     Openings,
@@ -36,7 +38,7 @@ fn ask(section: Section, case: &[u8]) {
 fn ask_each(section: Section, cases: &[u8]) {
     let mut at = 0;
     while at < cases.len() {
-        let end = fields::mark_at(cases, at, b';');
+        let end = text::mark_at(cases, at, b';');
         ask(section, &cases[at..end]);
         if end == cases.len() {
             return;

@@ -1,16 +1,16 @@
--- `limits::fields::mark_at` meets its contract. The invariant: i is at least `from` and at most the length. The measure is what is left of
--- it. Assumes nothing.
-use Prim.Native.Nat.{_≤_, _-_}
+-- `cases::text::mark_at` meets its contract. The invariant: `to` is between `from` and the text's end. The measure is
+-- what is left of the text. Assumes nothing.
+use Prim.Native.Nat.{_-_, _≤_}
 use lib.ListN.{length}
 use borrow.Author.Needs.{needs}
-use Rattle.limits.proofs.fields.mark_at.Statement.{statement}
-use Rattle.limits.proofs.fields.mark_at.Tie as tie
+use Rattle.cases.proofs.text.mark_at.Statement.{statement}
+use Rattle.cases.proofs.text.mark_at.Tie as tie
 
 abbrev Inv-loop : tie.InvT-loop
-Inv-loop text from mark i₀ i = (from ≤ i) × (i ≤ length text)
+Inv-loop text from mark to₀ to = («from» ≤ to) × (to ≤ length text)
 
 abbrev μ-loop : tie.MeasureT-loop
-μ-loop text from mark i₀ i = length text - i
+μ-loop text from mark to₀ to = length text - to
 
 loop-holds : tie.Need-loop-holds Inv-loop μ-loop
 loop-holds c = search needs
@@ -21,8 +21,8 @@ shared-slice-read-if1 c = search needs
 returns : tie.Need-returns Inv-loop μ-loop
 returns c = search needs
 
-add-i : tie.Need-add-i Inv-loop μ-loop
-add-i c = search needs
+add-to : tie.Need-add-to Inv-loop μ-loop
+add-to c = search needs
 
 loop-less : tie.Need-loop-less Inv-loop μ-loop
 loop-less c = search needs
@@ -42,7 +42,7 @@ mark-at-spec =
     loop-holds
     shared-slice-read-if1
     returns
-    add-i
+    add-to
     loop-less
     loop-again
     returns-2)
