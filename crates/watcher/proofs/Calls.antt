@@ -9,24 +9,24 @@ use Rattle.rules.specs.declared.Fed.{Fed}
 use Rattle.rules.specs.Grant.{kept}
 use Rattle.rules.specs.Calls.{OpenedWith, open-with, grant-call, release-call, feed}
 use Rattle.watcher.specs.Calls.{Opens, Grants, Releases, Feeds}
-use Rattle.watcher.specs.Lines.{fed}
+use Rattle.trace.specs.Feed.{fed}
 
 abbrev pub opened : Opened → List ℕ → List ℕ → OpenedWith
 opened given shadow table = record { given = given; shadow = shadow; table = table }
 
-module _ {S T : List ℕ} {R Q : ℕ} {r : Opened} {S· T· : List ℕ} where
-  pub opens-is : opened r S· T· ≡ open-with S T R Q → Opens S T R Q r S· T·
+module _ {shadow table : List ℕ} {R Q : ℕ} {r : Opened} {shadow-after table-after : List ℕ} where
+  pub opens-is : opened r shadow-after table-after ≡ open-with shadow table R Q → Opens shadow table R Q r shadow-after table-after
   opens-is e = record { given = ap (λ o. o .given) e; shadow = ap (λ o. o .shadow) e; table = ap (λ o. o .table) e }
 
-module _ {session : Session} {S T : List ℕ} {n : ℕ} {r : Answer} {S· T· : List ℕ} where
-  pub grants-is : kept r S· T· ≡ grant-call session S T n → Grants session S T n r S· T·
+module _ {session : Session} {shadow table : List ℕ} {n : ℕ} {r : Answer} {shadow-after table-after : List ℕ} where
+  pub grants-is : kept r shadow-after table-after ≡ grant-call session shadow table n → Grants session shadow table n r shadow-after table-after
   grants-is e = record { answer = ap (λ a. a .answer) e; shadow = ap (λ a. a .shadow) e; table = ap (λ a. a .table) e }
 
-  pub releases-is : kept r S· T· ≡ release-call session S T n → Releases session S T n r S· T·
+  pub releases-is : kept r shadow-after table-after ≡ release-call session shadow table n → Releases session shadow table n r shadow-after table-after
   releases-is e = record { answer = ap (λ a. a .answer) e; shadow = ap (λ a. a .shadow) e; table = ap (λ a. a .table) e }
 
-module _ {session : Session} {S T piece room : List ℕ} {r : Fed} {S· T· room· : List ℕ} where
-  pub feeds-is : fed r S· T· room· ≡ feed session S T piece room → Feeds session S T piece room r S· T· room·
+module _ {session : Session} {shadow table piece room : List ℕ} {r : Fed} {shadow-after table-after room-after : List ℕ} where
+  pub feeds-is : fed r shadow-after table-after room-after ≡ feed session shadow table piece room → Feeds session shadow table piece room r shadow-after table-after room-after
   feeds-is e = record {
     given = ap (λ f. f .given) e;
     shadow = ap (λ f. f .shadow) e;

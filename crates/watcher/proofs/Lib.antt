@@ -1,5 +1,4 @@
--- Reading a call's statement off one equation; what follows from the statements; and a piece, byte by byte.
+-- Reading a call's statement off one equation, and what follows from the statements.
 pub mod Calls
-pub mod Feeding
 pub mod Only
 pub mod Refusals

@@ -7,9 +7,6 @@ use rules::Opened;
 use rules::Session;
 use rules::limits::REDZONE_BYTE;
 use rules::limits::ROW_NUMBERS;
-
-mod lines;
-
 ghost use mathlib.Core.Path.{_≡_};
 ghost use Rattle.rules.specs.Answers.{status};
 ghost use Rattle.rules.specs.Calls.{closed};
@@ -110,5 +107,5 @@ pub fn feed(
             wrote: 0,
         };
     }
-    lines::feed(session, shadow, table, piece, room)
+    trace::feed(session, shadow, table, piece, room)
 }

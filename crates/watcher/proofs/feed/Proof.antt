@@ -8,7 +8,7 @@ use Rattle.rules.specs.declared.Fed.{Fed}
 use Rattle.rules.specs.Answers.{status, in-numbers}
 use Rattle.rules.proofs.Tests.{not-true, not-false}
 use Rattle.rules.proofs.Calls.{lent-true, feed-24, feed-done}
-use Rattle.watcher.specs.Lines.{fed}
+use Rattle.trace.specs.Feed.{fed}
 use Rattle.watcher.proofs.Calls.{feeds-is}
 use Rattle.watcher.proofs.feed.Statement.{statement}
 use Rattle.watcher.proofs.feed.Tie as tie

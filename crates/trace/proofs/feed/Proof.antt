@@ -1,14 +1,14 @@
--- `watcher::lines::feed` meets its contract. The invariant is `Feeding`: what is left to run is what was to run, less what is done. The
+-- `trace::feed` meets its contract. The invariant is `Feeding`: what is left to run is what was to run, less what is done. The
 -- measure is what is left of the piece. Assumes nothing.
 use Prim.Native.Nat.{_-_}
 use native.Mathlib.Omega.{arith}
 use lib.ListN.{length}
 use borrow.Author.Needs.{needs}
 use Rattle.rules.proofs.Calls.{state-of}
-use Rattle.watcher.specs.Lines.{ran}
-use Rattle.watcher.proofs.Feeding.{Feeding, feeding-start, feeding-room, feeding-byte, feeding-part, feeding-line, feeding-end, feeding-full}
-use Rattle.watcher.proofs.lines.feed.Statement.{statement}
-use Rattle.watcher.proofs.lines.feed.Tie as tie
+use Rattle.trace.specs.Feed.{ran}
+use Rattle.trace.proofs.Feeding.{Feeding, feeding-start, feeding-room, feeding-byte, feeding-part, feeding-line, feeding-end, feeding-full}
+use Rattle.trace.proofs.feed.Statement.{statement}
+use Rattle.trace.proofs.feed.Tie as tie
 
 abbrev Inv-loop : tie.InvT-loop
 Inv-loop shadow₀ table₀ piece room₀ status current₀ taken₀ wrote₀ shadow table room current taken wrote =

@@ -1,4 +1,4 @@
--- What the functions behind a feed ask, and what they leave.
+-- What a finished line asks, and a feed as one value.
 use Prim.Native.Nat.{ℕ}
 use mathlib.Core.Path.{_≡_}
 use mathlib.Core.List.{List}

@@ -20,7 +20,7 @@ use Rattle.rules.specs.Calls.{FedWith, fed-with}
 use Rattle.rules.proofs.Put.{put-nothing, length-put, put-lent, put-behind}
 use Rattle.rules.proofs.Feed.{step-line-feed, step-byte, step-lengths, finish-report}
 use Rattle.rules.proofs.Calls.{LentState, state-of, step-lent}
-use Rattle.watcher.specs.Lines.{fed, fed-of}
+use Rattle.trace.specs.Feed.{fed, fed-of}
 
 -- ---- the bytes that are taken of a text, run
 

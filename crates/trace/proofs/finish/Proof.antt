@@ -1,4 +1,4 @@
--- `watcher::lines::finish` meets its contract: the frame, what it does, its answer and the emptied line are the rule's, one after the
+-- `trace::finish` meets its contract: the frame, what it does, its answer and the emptied line are the rule's, one after the
 -- other. Assumes nothing.
 use mathlib.Core.Path.{ap, _∙_}
 use denote.Ref.{now}
@@ -7,9 +7,9 @@ use Rattle.rules.specs.declared.Session.{Session}
 use Rattle.rules.specs.Grant.{Acted}
 use Rattle.rules.specs.Frames.{answer-line}
 use Rattle.rules.specs.Feed.{Ran, act, emptied, act-line, finish}
-use Rattle.watcher.specs.Lines.{ran}
-use Rattle.watcher.proofs.lines.finish.Statement.{statement}
-use Rattle.watcher.proofs.lines.finish.Tie as tie
+use Rattle.trace.specs.Feed.{ran}
+use Rattle.trace.proofs.finish.Statement.{statement}
+use Rattle.trace.proofs.finish.Tie as tie
 
 frame-of-line-requires : tie.Need-frame-of-line-requires
 frame-of-line-requires c κs = search needs

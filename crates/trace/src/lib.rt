@@ -1,4 +1,4 @@
-// The text: one finished line, and a piece byte by byte.
+// A trace: one finished line, and a piece byte by byte, for a session that has passed the check behind 24.
 use frames::lines;
 use rules::Answer;
 use rules::Fed;
@@ -8,7 +8,7 @@ use rules::limits::LINE_FEED;
 ghost use mathlib.Core.Path.{_≡_};
 ghost use Rattle.rules.specs.Feed.{finish};
 ghost use Rattle.rules.proofs.Calls.{Lent, state-of};
-ghost use Rattle.watcher.specs.Lines.{Finishing, ran, fed, fed-of};
+ghost use Rattle.trace.specs.Feed.{Finishing, ran, fed, fed-of};
 
 // A finished line is acted on and answered in the 13 bytes lent, and its session has an empty line.
 pub fn finish(session: Session, shadow: &mut [u8], table: &mut [u32], part: &mut [u8]) -> Session

@@ -1,0 +1,2 @@
+-- A piece, byte by byte.
+pub mod Feeding

@@ -1,0 +1,2 @@
+-- What the functions of a trace ask, and what they leave.
+pub mod Feed
