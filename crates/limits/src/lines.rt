@@ -1,10 +1,10 @@
 // Lines: every length about 18 with and without its line feed, the bytes that are no digits, the kinds, and B.
-use crate::pool;
+use crate::feeds;
 
 // "A frame is 18 hex digits of either case and a line feed." "An unfinished line is never acted on; its length can be asked (19
 // stands for 19 or more)."
 fn lengths() {
-    pool::ask_each(
+    feeds::ask_each(
         b"line of 0 bytes|16 4 2 16 14|\n;\
             line of 1 byte|16 4 2 16 14|0\n;\
             line of 17 bytes|16 4 2 16 14|010000000d0000000\n;\
@@ -13,7 +13,7 @@ fn lengths() {
             line of 20 bytes|16 4 2 16 14|010000000d0000000000\n;\
             line of 100 bytes|16 4 2 16 14|010000000d000000000000000000000000000000000000000000000000000000000000000000000000000000000000000000\n;",
     );
-    pool::ask_each(
+    feeds::ask_each(
         b"0 bytes, no line feed|16 4 2 16 14|;\
             1 byte, no line feed|16 4 2 16 14|0;\
             17 bytes, no line feed|16 4 2 16 14|010000000d0000000;\
@@ -28,7 +28,7 @@ fn lengths() {
 // "A line answered, refused or not, empties the unfinished line." 02: "kind not 01 to 04". 03: "B not zero in 01 or 02". 01 comes
 // before 02, and 02 before 03.
 fn refusals() {
-    pool::ask_each(
+    feeds::ask_each(
         b"line of 19 bytes, then one of 18|16 4 2 16 27|010000000d000000000\n010000000d00000000\n;\
             grant in capitals|16 4 2 16 14|010000000D00000000\n;\
             access in capitals|16 4 2 16 14|03ABCDEF0100000001\n;\
@@ -39,7 +39,7 @@ fn refusals() {
             zero byte alone|16 4 2 16 14|\x00\n;\
             g as the first byte|16 4 2 16 14|g10000000d00000000\n;",
     );
-    pool::ask_each(
+    feeds::ask_each(
         b"kind 00|16 4 2 16 14|000000000d00000000\n;\
             kind 02|16 4 2 16 14|020000000000000000\n;\
             kind 03|16 4 2 16 14|030000000000000001\n;\

@@ -1,13 +1,13 @@
 // Both sides of every limit of the paper, asked of the public calls alone. A line says in words what is asked, and then
 // what was answered and left in each buffer; the stored output is worked from the paper by hand.
 mod addresses;
+mod feeds;
 mod fields;
 mod forged;
 mod lines;
 mod opening;
-mod pool;
 mod releases;
-mod room;
+mod report;
 mod rows;
 mod scribbled;
 mod sizes;
@@ -27,7 +27,7 @@ pub enum Section {
 fn ask(section: Section, case: &[u8]) {
     match section {
         Section::Openings => opening::ask(case),
-        Section::Feeds => pool::ask(case),
+        Section::Feeds => feeds::ask(case),
         Section::Grants => sizes::ask(case),
         Section::Accesses => addresses::ask(case),
         Section::Sessions => forged::ask(case),
@@ -50,7 +50,7 @@ fn ask_each(section: Section, cases: &[u8]) {
 fn main() {
     opening::run();
     lines::run();
-    room::run();
+    report::run();
     sizes::run();
     addresses::run();
     rows::run();

@@ -1,9 +1,9 @@
 // Releases, and the quarantine at both ends of Q and on both sides of a sum: "while the sizes of quarantined rows sum to more
 // than Q".
-use crate::pool;
+use crate::feeds;
 
 pub fn run() {
-    pool::ask_each(
+    feeds::ask_each(
         b"release of address 0|16 4 2 16 27|010000000d00000000\n020000000000000000\n;\
             release of 0f, 11 and 18|16 4 2 16 53|010000000d00000000\n020000000f00000000\n020000001100000000\n020000001800000000\n;\
             released twice|16 4 2 16 40|010000000d00000000\n020000001000000000\n020000001000000000\n;\

@@ -1,5 +1,5 @@
 // Rows: one, and 1,024; 05 comes before 06; a quarantined row is not empty, an evicted one is.
-use crate::pool;
+use crate::feeds;
 use cases::print;
 use rules::Session;
 
@@ -22,7 +22,7 @@ fn grant_and_release(session: Session, shadow: &mut [u8; 16], table: &mut [u32; 
 }
 
 pub fn run() {
-    pool::ask_each(
+    feeds::ask_each(
         b"one row, a second grant|16 1 2 16 27|010000000100000000\n010000000100000000\n;\
             one row, no place|16 1 2 16 14|010000006100000000\n;\
             one row, neither row nor place|16 1 2 16 27|010000000100000000\n010000006100000000\n;\

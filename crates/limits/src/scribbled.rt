@@ -1,7 +1,7 @@
 // Scribbled buffers: "the same rules apply to whatever is found". S = 8 and R = 2, with the shadow and four rows given.
 use crate::Section;
+use crate::feeds;
 use crate::fields;
-use crate::pool;
 use cases::show;
 use cases::tables::table_of;
 use rules::Session;
@@ -16,7 +16,7 @@ fn feed(
 ) {
     let mut report = [b'.'; 80];
     if room <= 80 {
-        pool::feed(words, session, shadow, table, piece, &mut report[0..room]);
+        feeds::feed(words, session, shadow, table, piece, &mut report[0..room]);
         return;
     }
     show::not_asked();

@@ -1,7 +1,7 @@
 // Sizes of a grant, from 0 to one more than fits, and what the redzone leaves of a shadow.
 use crate::Section;
+use crate::feeds;
 use crate::fields;
-use crate::pool;
 use cases::print;
 use cases::show;
 use rules::Session;
@@ -72,7 +72,7 @@ pub fn run() {
             S of 8, R of 4, grant of 1 byte|8 4 1;\
             S of 9, R of 4, grant of 1 byte|9 4 1;",
     );
-    pool::ask_each(
+    feeds::ask_each(
         b"S of 8, R of 2, five granules left|8 4 2 16 27|010000000800000000\n010000000100000000\n;\
             S of 8, R of 2, four granules left|8 4 2 16 27|010000001000000000\n010000000100000000\n;",
     );

@@ -1,9 +1,9 @@
 // Report room: "until the piece ends, or the next byte is a line feed and fewer than 13 bytes of report room are left". The two
 // lines are a grant, and a read of its first byte.
-use crate::pool;
+use crate::feeds;
 
 pub fn run() {
-    pool::ask_each(
+    feeds::ask_each(
         b"two lines, room for 0 bytes|16 4 2 16 0|010000000d00000000\n030000001000000001\n;\
             two lines, room for 12 bytes|16 4 2 16 12|010000000d00000000\n030000001000000001\n;\
             two lines, room for 13 bytes|16 4 2 16 13|010000000d00000000\n030000001000000001\n;\
