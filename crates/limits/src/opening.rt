@@ -62,6 +62,7 @@ pub fn run() {
             table of 3 numbers|16 3 2 16;\
             table of 4 numbers|16 4 2 16;\
             table of 5 numbers|16 5 2 16;\
+            table of 6 numbers|16 6 2 16;\
             table of 8 numbers|16 8 2 16;\
             table of 4,096 numbers|16 4096 2 16;\
             table of 4,097 numbers|16 4097 2 16;\

@@ -1,9 +1,9 @@
--- Choices, and tests as facts: a choice whose test is known, the cases of a test, of a search and of an order, two tests joined, and
--- a number between its limits. Assumes nothing.
+-- Choices, and tests as facts: a choice whose test is known, the cases of a test, of a search and of an order, two tests joined, a
+-- test asked by its contrary, and a number between its limits. Assumes nothing.
 use Prim.Native.Nat.{ℕ, _≤_, _<_}
 use native.Mathlib.Decide.{decLt}
 use native.Mathlib.Omega.{arith}
-use mathlib.Core.Path.{_≡_, refl, sym, ap}
+use mathlib.Core.Path.{_≡_, refl, sym, ap, _∙_}
 use mathlib.Core.Bool.{Bool, true, false, not, _&&_, and-eq-true-iff, true≢false}
 use mathlib.Core.Option.{Option, none, some}
 use lib.Dec.{leb}
@@ -38,14 +38,12 @@ both {a} {b} e = and-eq-true-iff a b .0 e
 pub join : {a b : Bool} → a ≡ true → b ≡ true → (a && b) ≡ true
 join {a} {b} e f = and-eq-true-iff a b .1 (e, f)
 
--- a test that is denied
-pub not-true : (t : Bool) → not t ≡ true → t ≡ false
-not-true true e = absurd (true≢false (sym e))
-not-true false e = refl
+-- a test that is denied, or passed, where the code asks for its contrary
+pub denied : {t s : Bool} → t ≡ s → not t ≡ true → s ≡ false
+denied {t} e contrary = by-test t (λ is. absurd (true≢false (sym contrary ∙ ap not is))) (λ is. sym e ∙ is)
 
-pub not-false : (t : Bool) → not t ≡ false → t ≡ true
-not-false true e = refl
-not-false false e = absurd (true≢false e)
+pub passed : {t s : Bool} → t ≡ s → not t ≡ false → s ≡ true
+passed {t} e contrary = by-test t (λ is. sym e ∙ is) (λ is. absurd (true≢false (sym (ap not is) ∙ contrary)))
 
 -- ---- limits, as a test
 

@@ -1,7 +1,7 @@
 -- `session::fits_lent` meets its contract: within its limits four times the rows fit, and the tests are the definition's. Assumes nothing.
 use Prim.Native.Nat.{_*_}
 use native.Mathlib.Omega.{arith}
-use mathlib.Core.Path.{sym, ap, _∙_}
+use mathlib.Core.Path.{sym, ap}
 use mathlib.Core.Bool.{_&&_}
 use lib.ListN.{length}
 use lib.Dec.{eqb}
@@ -9,7 +9,7 @@ use denote.Ref.{now}
 use borrow.Author.Needs.{needs}
 use Rattle.rules.specs.Limits.{least-rows, most-rows, row-numbers}
 use Rattle.rules.specs.Calls.{fits-lent}
-use Rattle.rules.proofs.Tests.{not-true, not-false, between-is}
+use Rattle.rules.proofs.Tests.{denied, passed, between-is}
 use Rattle.rules.proofs.Calls.{within-true}
 use Rattle.session.proofs.fits_lent.Statement.{statement}
 use Rattle.session.proofs.fits_lent.Tie as tie
@@ -23,13 +23,13 @@ returns c =
     let start = c .before .before .before .before in
     let session = start .args .session in
     ap (λ within. within && eqb (length (now (start .args .shadow))) (session .granules) && eqb (length (now (start .args .table))) (row-numbers * session .rows))
-    (sym (not-true (c .before .within-limits .result) (c .if1 .taken)) ∙ c .before .within-limits .ensures)
+    (sym (denied (c .before .within-limits .ensures) (c .if1 .taken)))
 
 mul-of-table : tie.Need-mul-of-table
 mul-of-table c =
     let test = c .before .before in
     let session = test .before .before .before .before .args .session in
-    let within = within-true session (sym (test .before .within-limits .ensures) ∙ not-false (test .before .within-limits .result) (test .if1 .left)) in
+    let within = within-true session (passed (test .before .within-limits .ensures) (test .if1 .left)) in
     record { fits = omega (arith, between-is least-rows most-rows (session .rows) (within .rows) .1) }
 
 returns-2 : tie.Need-returns-2
@@ -39,7 +39,7 @@ returns-2 c =
     let start = test .before .before .before .before in
     let session = start .args .session in
     ap (λ within. within && eqb (length (now (start .args .shadow))) (session .granules) && eqb (length (now (start .args .table))) (row-numbers * session .rows))
-    (sym (not-false (test .before .within-limits .result) (test .if1 .left)) ∙ test .before .within-limits .ensures)
+    (sym (passed (test .before .within-limits .ensures) (test .if1 .left)))
 
 pub fits-lent-spec : {M : Type 1} → statement M
 fits-lent-spec = tie.close (tie.spec within-limits-requires returns mul-of-table returns-2)

@@ -3,7 +3,7 @@ use mathlib.Core.Path.{sym, _∙_}
 use denote.Ref.{now}
 use borrow.Author.Needs.{needs}
 use Rattle.rules.specs.Calls.{access-call}
-use Rattle.rules.proofs.Tests.{if-true, not-true, not-false}
+use Rattle.rules.proofs.Tests.{if-true, denied, passed}
 use Rattle.rules.proofs.Calls.{lent-true, lent-granules, access-24}
 use Rattle.watcher.proofs.access.Statement.{statement}
 use Rattle.watcher.proofs.access.Tie as tie
@@ -14,18 +14,18 @@ fits-lent-requires c κs = search needs
 returns : tie.Need-returns
 returns c =
     let start = c .before .before .before .before in
-    let fails = sym (c .before .fits-lent .ensures) ∙ not-true (c .before .fits-lent .result) (c .if1 .taken) in
+    let fails = denied (c .before .fits-lent .ensures) (c .if1 .taken) in
     record { answer = sym (access-24 (start .args .session) (now (start .args .shadow)) (now (start .args .table)) (start .args .address) (start .args .length) fails) }
 
 access-requires : tie.Need-access-requires
 access-requires c κs =
-    lent-granules (lent-true _ _ _ (sym (c .before .fits-lent .ensures) ∙ not-false (c .before .fits-lent .result) (c .if1 .left)))
+    lent-granules (lent-true _ _ _ (passed (c .before .fits-lent .ensures) (c .if1 .left)))
 
 returns-2 : tie.Need-returns-2
 unfolding access-call
 returns-2 c =
     let test = c .before in
-    let passes = sym (test .before .fits-lent .ensures) ∙ not-false (test .before .fits-lent .result) (test .if1 .left) in
+    let passes = passed (test .before .fits-lent .ensures) (test .if1 .left) in
     record { answer = c .access .ensures ∙ sym (if-true _ _ passes) }
 
 pub access-spec : {M : Type 1} → statement M

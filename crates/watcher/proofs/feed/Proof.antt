@@ -6,7 +6,7 @@ use borrow.Author.Needs.{needs}
 use Rattle.rules.specs.declared.Session.{Session}
 use Rattle.rules.specs.declared.Fed.{Fed}
 use Rattle.rules.specs.Answers.{status, in-numbers}
-use Rattle.rules.proofs.Tests.{not-true, not-false}
+use Rattle.rules.proofs.Tests.{denied, passed}
 use Rattle.rules.proofs.Calls.{lent-true, feed-24, feed-done}
 use Rattle.trace.specs.Feed.{fed}
 use Rattle.watcher.proofs.Calls.{feeds-is}
@@ -37,7 +37,7 @@ returns c =
     let shadow = now (start .args .shadow) in
     let table = now (start .args .table) in
     let room = now (start .args .room) in
-    let fails = sym (test .before .fits-lent .ensures) ∙ not-true (test .before .fits-lent .result) (test .if1 .taken) in
+    let fails = denied (test .before .fits-lent .ensures) (test .if1 .taken) in
     feeds-is
     (ap (λ number. fed (nothing (start .args .session) number) shadow table room) (c .status-of .ensures)
     ∙ sym (feed-24 (start .args .session) shadow table (now (start .args .piece)) room fails))
@@ -45,7 +45,7 @@ returns c =
 feed-requires : tie.Need-feed-requires
 feed-requires c κs =
     let test = c .before .before .before in
-    lent-true _ _ _ (sym (test .before .fits-lent .ensures) ∙ not-false (test .before .fits-lent .result) (test .if1 .left))
+    lent-true _ _ _ (passed (test .before .fits-lent .ensures) (test .if1 .left))
 
 same-length-3 : tie.Need-same-length-3
 same-length-3 c = search needs
@@ -60,7 +60,7 @@ returns-2 : tie.Need-returns-2
 returns-2 c =
     let done = c .before .before .before .before .before .before in
     let test = done .before .before .before .before in
-    let passes = sym (test .before .fits-lent .ensures) ∙ not-false (test .before .fits-lent .result) (test .if1 .left) in
+    let passes = passed (test .before .fits-lent .ensures) (test .if1 .left) in
     feeds-is (done .feed .ensures ∙ sym (feed-done _ _ _ _ _ passes))
 
 pub feed-spec : {M : Type 1} → statement M

@@ -8,7 +8,7 @@ use denote.Ref.{now}
 use borrow.Author.Needs.{needs}
 use Rattle.rules.specs.Limits.{between, least-granules, most-granules, least-redzone, most-redzone}
 use Rattle.rules.specs.Calls.{table-length}
-use Rattle.rules.proofs.Tests.{not-true, not-false}
+use Rattle.rules.proofs.Tests.{denied, passed}
 use Rattle.rules.proofs.Calls.{open-bad-shadow, open-bad-redzone, open-bad-table, opened-with, open-done}
 use Rattle.watcher.proofs.Calls.{opened, opens-is}
 use Rattle.watcher.proofs.open.Statement.{statement}
@@ -26,13 +26,13 @@ table-of c = now (Start c .args .table)
 
 -- the tests that were passed
 granules-pass : (c : tie.Else1) → between least-granules most-granules (length (shadow-of (c .before))) ≡ true
-granules-pass c = sym (c .before .granules-within .ensures) ∙ not-false (c .before .granules-within .result) (c .if1 .left)
+granules-pass c = passed (c .before .granules-within .ensures) (c .if1 .left)
 
 redzone-passes : (c : tie.Else2) → between least-redzone most-redzone (Start (c .before .before .before) .args .redzone) ≡ true
-redzone-passes c = sym (c .before .redzone-within .ensures) ∙ not-false (c .before .redzone-within .result) (c .if2 .left)
+redzone-passes c = passed (c .before .redzone-within .ensures) (c .if2 .left)
 
 table-passes : (c : tie.Else3) → table-length (length (table-of (c .before .before .before .before .before))) ≡ true
-table-passes c = sym (c .before .table-length .ensures) ∙ not-false (c .before .table-length .result) (c .if3 .left)
+table-passes c = passed (c .before .table-length .ensures) (c .if3 .left)
 
 granules-within-requires : tie.Need-granules-within-requires
 granules-within-requires c κs = search needs
@@ -45,7 +45,7 @@ returns c =
     let test = c .before in
     let at = test .before in
     let start = Start at in
-    let fails = sym (at .granules-within .ensures) ∙ not-true (at .granules-within .result) (test .if1 .taken) in
+    let fails = denied (at .granules-within .ensures) (test .if1 .taken) in
     opens-is
     (ap (λ given. opened given (shadow-of at) (table-of at)) (c .not-opened .ensures)
     ∙ sym (open-bad-shadow (shadow-of at) (table-of at) (start .args .redzone) (start .args .quarantine) fails))
@@ -62,7 +62,7 @@ returns-2 c =
     let one = test .before .before in
     let at = one .before in
     let start = Start at in
-    let fails = sym (test .before .redzone-within .ensures) ∙ not-true (test .before .redzone-within .result) (test .if2 .taken) in
+    let fails = denied (test .before .redzone-within .ensures) (test .if2 .taken) in
     opens-is
     (ap (λ given. opened given (shadow-of at) (table-of at)) (c .not-opened2 .ensures)
     ∙ sym (open-bad-redzone (shadow-of at) (table-of at) (start .args .redzone) (start .args .quarantine) (granules-pass one) fails))
@@ -80,7 +80,7 @@ returns-3 c =
     let one = two .before .before in
     let at = one .before in
     let start = Start at in
-    let fails = sym (test .before .table-length .ensures) ∙ not-true (test .before .table-length .result) (test .if3 .taken) in
+    let fails = denied (test .before .table-length .ensures) (test .if3 .taken) in
     opens-is
     (ap (λ given. opened given (shadow-of at) (table-of at)) (c .not-opened3 .ensures)
     ∙ sym (open-bad-table (shadow-of at) (table-of at) (start .args .redzone) (start .args .quarantine) (granules-pass one) (redzone-passes two) fails))

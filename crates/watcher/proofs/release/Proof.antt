@@ -3,7 +3,7 @@ use mathlib.Core.Path.{sym, _∙_}
 use denote.Ref.{now}
 use borrow.Author.Needs.{needs}
 use Rattle.rules.specs.Calls.{release-call}
-use Rattle.rules.proofs.Tests.{if-true, not-true, not-false}
+use Rattle.rules.proofs.Tests.{if-true, denied, passed}
 use Rattle.rules.proofs.Calls.{lent-true, release-24}
 use Rattle.watcher.proofs.Calls.{releases-is}
 use Rattle.watcher.proofs.release.Statement.{statement}
@@ -21,13 +21,13 @@ same-length-2 c = search needs
 returns : tie.Need-returns
 returns c =
     let start = c .before .before .before .before .before .before in
-    let fails = sym (c .before .fits-lent .ensures) ∙ not-true (c .before .fits-lent .result) (c .if1 .taken) in
+    let fails = denied (c .before .fits-lent .ensures) (c .if1 .taken) in
     releases-is (sym (release-24 (start .args .session) (now (start .args .shadow)) (now (start .args .table)) (start .args .address) fails))
 
 release-requires : tie.Need-release-requires
 release-requires c κs =
     let test = c .before .before in
-    lent-true _ _ _ (sym (test .before .fits-lent .ensures) ∙ not-false (test .before .fits-lent .result) (test .if1 .left))
+    lent-true _ _ _ (passed (test .before .fits-lent .ensures) (test .if1 .left))
 
 same-length-3 : tie.Need-same-length-3
 same-length-3 c = search needs
@@ -40,7 +40,7 @@ unfolding release-call
 returns-2 c =
     let done = c .before .before .before .before in
     let test = done .before .before .before in
-    let passes = sym (test .before .fits-lent .ensures) ∙ not-false (test .before .fits-lent .result) (test .if1 .left) in
+    let passes = passed (test .before .fits-lent .ensures) (test .if1 .left) in
     releases-is (done .release .ensures ∙ sym (if-true _ _ passes))
 
 pub release-spec : {M : Type 1} → statement M

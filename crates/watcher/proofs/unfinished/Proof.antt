@@ -1,8 +1,8 @@
 -- `watcher::unfinished` meets its contract: a length within its limits has 32 bits. Assumes nothing.
 use native.Mathlib.Omega.{arith}
-use mathlib.Core.Path.{sym, _∙_}
+use mathlib.Core.Path.{sym}
 use borrow.Author.Needs.{needs}
-use Rattle.rules.proofs.Tests.{not-true, not-false}
+use Rattle.rules.proofs.Tests.{denied, passed}
 use Rattle.rules.proofs.Calls.{within-true, unfinished-24, unfinished-done}
 use Rattle.watcher.proofs.unfinished.Statement.{statement}
 use Rattle.watcher.proofs.unfinished.Tie as tie
@@ -13,19 +13,19 @@ within-limits-requires c κs = search needs
 returns : tie.Need-returns
 returns c =
     let session = c .before .before .args .session in
-    record { answer = sym (unfinished-24 session (sym (c .before .within-limits .ensures) ∙ not-true (c .before .within-limits .result) (c .if1 .taken))) }
+    record { answer = sym (unfinished-24 session (denied (c .before .within-limits .ensures) (c .if1 .taken))) }
 
 cast-t4 : tie.Need-cast-t4
 cast-t4 c =
     let test = c .before in
     let session = test .before .before .args .session in
-    record { fits = omega (arith, within-true session (sym (test .before .within-limits .ensures) ∙ not-false (test .before .within-limits .result) (test .if1 .left)) .unfinished) }
+    record { fits = omega (arith, within-true session (passed (test .before .within-limits .ensures) (test .if1 .left)) .unfinished) }
 
 returns-2 : tie.Need-returns-2
 returns-2 c =
     let test = c .before in
     let session = test .before .before .args .session in
-    record { answer = sym (unfinished-done session (sym (test .before .within-limits .ensures) ∙ not-false (test .before .within-limits .result) (test .if1 .left))) }
+    record { answer = sym (unfinished-done session (passed (test .before .within-limits .ensures) (test .if1 .left))) }
 
 pub unfinished-spec : {M : Type 1} → statement M
 unfinished-spec = tie.close (tie.spec within-limits-requires returns cast-t4 returns-2)
