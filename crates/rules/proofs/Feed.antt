@@ -160,7 +160,7 @@ pub lengthened-long : (session : Session) (b : ℕ) → frame-digits ≤ session
 unfolding lengthened
 lengthened-long session b long = if-false _ _ (le-ltb (session .unfinished) frame-digits long)
 
-lengthened-numbers : (session : Session) (b : ℕ) → SameNumbers session (lengthened session b)
+pub lengthened-numbers : (session : Session) (b : ℕ) → SameNumbers session (lengthened session b)
 lengthened-numbers session b =
     by-order (session .unfinished) frame-digits
     (λ short. subst (SameNumbers session) (sym (lengthened-short session b short)) (record { granules = refl; rows = refl; redzone = refl; quarantine = refl }))

@@ -87,7 +87,7 @@ abbrev pub state-after : State
 state-after = record { session = fresh 16 4 2 16; shadow = shadow-after; table = table-after }
 
 -- every definition that a text goes through: to unfold this one is to unfold them all
-by-the-rules : State → List ℕ → Ran
+unfoldable pub by-the-rules : State → List ℕ → Ran
 unfolding bytes text opened open-with table-length status in-numbers run step hold finish act-line act lengthened emptied access of-verdict
     judge first-bad kind addressable shadow-of inside leading lowest all-equal total put fill rows column put-row lessened
     counted granules fits place last-granule granted empty-row grant-at grant
