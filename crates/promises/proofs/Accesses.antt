@@ -1,0 +1,263 @@
+-- Reads and writes from an opening: reported exactly when a byte lies in no live block of the history, with the least such byte; and
+-- what follows of two blocks and of a released one. Assumes nothing.
+use Prim.Native.Nat.{ℕ, _+_, _*_, _≤_, _<_}
+use native.Mathlib.Decide.{ℕ-discrete}
+use native.Mathlib.Omega.{arith}
+use mathlib.Core.Path.{_≡_, refl, sym, ap, subst, _∙_}
+use mathlib.Core.Logic.{_≢_, _⊎_, inl, inr, ⊎-elim}
+use mathlib.Core.Bool.{true, false, true≢false}
+use mathlib.Core.Option.{some}
+use mathlib.Core.List.{List, [], _∷_, _++_, append-assoc, List·Memᴰ·head, List·Memᴰ·tail, List·Memᴰ·cases-cons}
+use Rattle.rules.specs.declared.Answer.the-variants.{NotGood}
+use Rattle.rules.specs.declared.Frame.{Frame}
+use Rattle.rules.specs.declared.Frame.the-variants.{Grant, Release, Read, Write, Refused}
+use Rattle.rules.specs.Limits.{granule, live, quarantined}
+use Rattle.rules.specs.Table.{rows, start, size, state}
+use Rattle.rules.specs.Shadow.{addressable, kind, first-bad}
+use Rattle.rules.specs.Answers.{in-numbers, status}
+use Rattle.rules.specs.Grant.{counted}
+use Rattle.rules.specs.Feed.{State, access, act, act-line}
+use Rattle.rules.proofs.Tests.{by-found, by-order}
+use Rattle.rules.proofs.Shadow.{FirstBad, first-bad-some, first-bad-none, not-inside}
+use Rattle.rules.proofs.Grant.{granules-enough}
+use Rattle.rules.proofs.Refusals.{access-good, access-bad}
+use Rattle.promises.specs.History.{Exchange, asks, status-of, Block, block, has-byte, lies-in, others, History, nothing-yet, done, heard, heard-all, history}
+use Rattle.promises.specs.Replay.{Replay, Line, ran, happened}
+use Rattle.promises.specs.Rows.{_∈_, Held, of-row}
+use Rattle.promises.specs.Accesses.{Touches, Stray, Reported, First, FirstBadByte, TwoBlocks, Grants, UntilGranted, OutsideNowhere}
+use Rattle.promises.proofs.History.{heard-done, by-heard, heard-append}
+use Rattle.promises.proofs.Replay.{Moment, acted-on, one-status}
+use Rattle.promises.proofs.Blocks.{has-byte-true, lies-in-is, lies-in-not, others-of}
+use Rattle.promises.proofs.Laid.{ends}
+use Rattle.promises.proofs.Drawn.{addressable-lies}
+use Rattle.promises.proofs.Invariant.{Stands, HoldsOf, line-moment, replay-holds, held-row}
+
+-- ---- the answer to an access
+
+access-answer : {P : State → History → Type 0} {h : History} {x : Exchange} (m : Moment P h x) (a n : ℕ) → Touches x a n
+    → act-line (m .st) .answer ≡ access (m .st .shadow) a n
+unfolding act
+access-answer m a n (inl e) = ap (λ acted. acted .answer) (acted-on m (Read a n) e)
+access-answer m a n (inr e) = ap (λ acted. acted .answer) (acted-on m (Write a n) e)
+
+-- reported with its first stray byte, or passed with none
+record Bad (blocks : List Block) (x : Exchange) (a n : ℕ) : Type 0 where
+  pub status-is : status-of x ≡ some 9
+  pub first : First blocks a n x
+
+record Passed (blocks : List Block) (x : Exchange) (a n : ℕ) : Type 0 where
+  pub status-is : status-of x ≡ some 0
+  pub none-stray : (b : ℕ) → Stray blocks a n b → ⊥
+
+judged : (r : Replay) (before : List Exchange) (x : Exchange) → Line r before x → (a n : ℕ) → Touches x a n
+    → Bad (history before .live) x a n ⊎ Passed (history before .live) x a n
+unfolding status in-numbers
+judged r before x line a n touches =
+    let m : Moment (HoldsOf r) (history before) x = line-moment r before x line in
+    let shadow : List ℕ = m .st .shadow in
+    let blocks : List Block = history before .live in
+    let stands = m .holds .stands in
+    let same : (b : ℕ) → addressable shadow b ≡ lies-in blocks b = addressable-lies (stands .standing .laid) blocks (stands .standing .lives) in
+    by-found (first-bad shadow a n)
+    (λ b e.
+    let f : FirstBad shadow a n b = first-bad-some shadow a n b e in
+    let answer : act-line (m .st) .answer ≡ NotGood (kind shadow b) b = access-answer m a n touches ∙ access-bad shadow a n b e in
+    inl
+    (record {
+      status-is = m .status-is ∙ ap (λ c. some (status c)) answer;
+      first = record {
+        byte = b;
+        value = m .value-is ∙ ap (λ c. some (in-numbers c .value)) answer;
+        stray = record { from = f .from; below = f .below; nowhere = sym (same b) ∙ f .bad };
+        least =
+            λ c s. by-order c b (λ less. absurd (true≢false (sym (f .first c (s .from) less) ∙ same c ∙ s .nowhere))) (λ more. more);
+      };
+    }))
+    (λ e.
+    inr
+    (record {
+      status-is = m .status-is ∙ ap (λ c. some (status c)) (access-answer m a n touches ∙ access-good shadow a n e);
+      none-stray = λ b s. true≢false (sym (first-bad-none shadow a n e b (s .from) (s .below)) ∙ same b ∙ s .nowhere);
+    }))
+
+-- ---- history, and the first bad byte
+
+pub reported : Reported
+reported r before x line a n touches =
+    ⊎-elim
+    (λ (bad : Bad (history before .live) x a n). record {
+      reported = (λ e. (bad .first .byte, bad .first .stray), λ s. bad .status-is);
+      passed = (λ e. absurd (omega (arith, one-status (bad .status-is) e)), λ none·. absurd (none· (bad .first .byte, bad .first .stray)));
+    })
+    (λ (good : Passed (history before .live) x a n). record {
+      reported = (λ e. absurd (omega (arith, one-status (good .status-is) e)), λ s. absurd (good .none-stray (s .0) (s .1)));
+      passed = (λ e. λ s. good .none-stray (s .0) (s .1), λ none·. good .status-is);
+    })
+    (judged r before x line a n touches)
+
+pub first-bad-byte : FirstBadByte
+first-bad-byte r before x line a n touches e =
+    ⊎-elim
+    (λ (bad : Bad (history before .live) x a n). bad .first)
+    (λ (good : Passed (history before .live) x a n). absurd (omega (arith, one-status (good .status-is) e)))
+    (judged r before x line a n touches)
+
+-- bytes outside the arena lie in no block
+pub outside-nowhere : OutsideNowhere
+outside-nowhere r b beyond =
+    let standing = replay-holds r .stands .standing in
+    sym (addressable-lies (standing .laid) (happened r .live) (standing .lives) b)
+    ∙ not-inside (ran r .state .shadow) b (omega (arith, standing .laid .of-shadow))
+
+-- ---- two blocks
+
+-- rows i and j are two, and the blocks of both have a byte among the n at a: the byte after the lower block's last lies in no live block
+module _ {S R Q : ℕ} {shadow table : List ℕ} {h : History} (stands : Stands S R Q shadow table h) where
+  -- a byte of row i's granules is in no other held row's block
+  one-row : (i j : ℕ) → Held table i → Held table j → i ≢ j → (b : ℕ) → granule * start table i ≤ b → b < granule * ends table i
+      → has-byte (of-row table j) b ≡ true → ⊥
+  one-row i j hi hj differ b from below has =
+      let range : (granule * start table j ≤ b) × (b < granule * start table j + size table j) = has-byte-true (of-row table j) b has in
+      ⊎-elim {C = ⊥}
+      (λ left. omega (arith, range .0))
+      (λ right. omega (arith, range .1, granules-enough (size table j)))
+      (stands .standing .laid .apart i j hi hj differ)
+
+  -- no byte of a quarantined row lies in a live block
+  quarantined-stray : (i : ℕ) → i < rows table → state table i ≡ quarantined → (b : ℕ) → has-byte (of-row table i) b ≡ true → lies-in (h .live) b ≡ false
+  quarantined-stray i below is b has =
+      lies-in-not (h .live) b
+      (λ x m has-x.
+      let row : (j : ℕ) × (j < rows table) × (state table j ≡ live) × (of-row table j ≡ x) = stands .standing .lives .row x m in
+      let range : (granule * start table i ≤ b) × (b < granule * start table i + size table i) = has-byte-true (of-row table i) b has in
+      one-row i (row .0) (record { below = below; has = inr is }) (record { below = row .1; has = inl (row .2) })
+      (λ e. absurd (omega (arith, row .2, ap (state table) e))) b (range .0) (omega (arith, range .1, granules-enough (size table i)))
+      (ap (λ y. has-byte y b) (row .3) ∙ has-x))
+
+  -- nor does the byte after a live row's last
+  after-stray : (i : ℕ) → i < rows table → state table i ≡ live → lies-in (h .live) (granule * start table i + size table i) ≡ false
+  after-stray i below is =
+      let own : Held table i = record { below = below; has = inl is } in
+      let b : ℕ = granule * start table i + size table i in
+      lies-in-not (h .live) b
+      (λ x m has-x.
+      let row : (j : ℕ) × (j < rows table) × (state table j ≡ live) × (of-row table j ≡ x) = stands .standing .lives .row x m in
+      let range : (granule * start table (row .0) ≤ b) × (b < granule * start table (row .0) + size table (row .0)) =
+      has-byte-true (of-row table (row .0)) b (ap (λ y. has-byte y b) (row .3) ∙ has-x) in
+      elim (ℕ-discrete i (row .0)) [
+        | yes e ↦ omega (arith, range .1, ap (start table) e, ap (size table) e)
+        | no differ ↦
+            ⊎-elim {C = ⊥}
+            (λ left. omega (arith, range .0, granules-enough (size table i), stands .above))
+            (λ right. omega (arith, range .1, granules-enough (size table (row .0)), stands .above))
+            (stands .standing .laid .apart i (row .0) own (record { below = row .1; has = inl (row .2) }) differ)
+      ])
+
+  -- of two live rows, in their order
+  between-stray : (i j a n b c : ℕ) → i < rows table → state table i ≡ live → ends table i + R ≤ start table j
+      → a ≤ b → b < granule * start table i + size table i → granule * start table j ≤ c → c < a + n
+      → Stray (h .live) a n (granule * start table i + size table i)
+  between-stray i j a n b c below is left from in-first from-second upto = record {
+    from = omega arith;
+    below = omega (arith, granules-enough (size table i), stands .above);
+    nowhere = after-stray i below is;
+  }
+
+  two-rows : (i j a n b c : ℕ) → Held table i → Held table j → i ≢ j → a ≤ b → b < a + n → has-byte (of-row table i) b ≡ true
+      → a ≤ c → c < a + n → has-byte (of-row table j) c ≡ true → (s : ℕ) × Stray (h .live) a n s
+  two-rows i j a n b c hi hj differ from-b below-b has-b from-c below-c has-c =
+      let range : (granule * start table i ≤ b) × (b < granule * start table i + size table i) = has-byte-true (of-row table i) b has-b in
+      let range′ : (granule * start table j ≤ c) × (c < granule * start table j + size table j) = has-byte-true (of-row table j) c has-c in
+      ⊎-elim
+      (λ live-i.
+      ⊎-elim
+      (λ live-j.
+      ⊎-elim
+      (λ left. (granule * start table i + size table i, between-stray i j a n b c (hi .below) live-i left from-b (range .1) (range′ .0) below-c))
+      (λ right. (granule * start table j + size table j, between-stray j i a n c b (hj .below) live-j right from-c (range′ .1) (range .0) below-b))
+      (stands .standing .laid .apart i j hi hj differ))
+      (λ is. (c, record { from = from-c; below = below-c; nowhere = quarantined-stray j (hj .below) is c has-c }))
+      (hj .has))
+      (λ is. (b, record { from = from-b; below = below-b; nowhere = quarantined-stray i (hi .below) is b has-b }))
+      (hi .has)
+
+pub two-blocks : TwoBlocks
+two-blocks r before x line a n touches y z in-y in-z differ b c from-b below-b has-b from-c below-c has-c =
+    let m : Moment (HoldsOf r) (history before) x = line-moment r before x line in
+    let table : List ℕ = m .st .table in
+    let first : (i : ℕ) × Held table i × (of-row table i ≡ y) = held-row (m .holds .stands) y in-y in
+    let second : (j : ℕ) × Held table j × (of-row table j ≡ z) = held-row (m .holds .stands) z in-z in
+    reported r before x line a n touches .reported .1
+    (two-rows (m .holds .stands) (first .0) (second .0) a n b c (first .1) (second .1)
+    (λ e. differ (sym (first .2) ∙ ap (of-row table) e ∙ second .2)) from-b below-b (ap (λ w. has-byte w b) (first .2) ∙ has-b) from-c below-c
+    (ap (λ w. has-byte w c) (second .2) ∙ has-c))
+
+-- ---- a released block
+
+-- a byte that lies in no live block lies in none until it is granted
+module _ (b : ℕ) where
+  done-stray : (h : History) (frame : Frame) (value : ℕ) → lies-in (h .live) b ≡ false
+      → ((s : ℕ) → frame ≡ Grant s → has-byte (block value (counted s)) b ≡ true → ⊥) → lies-in (done h frame value .live) b ≡ false
+  unfolding done
+  done-stray h (Grant s) value nowhere not-granted =
+      lies-in-not (block value (counted s) ∷ h .live) b
+      (λ x m has.
+      ⊎-elim {C = ⊥}
+      (λ e. not-granted s refl (ap (λ y. has-byte y b) (sym e) ∙ has))
+      (λ later. true≢false (sym (lies-in-is (h .live) b x later has) ∙ nowhere))
+      (List·Memᴰ·cases-cons m))
+  done-stray h (Release a) value nowhere not-granted =
+      lies-in-not (others a (h .live)) b
+      (λ x m has. true≢false (sym (lies-in-is (h .live) b x (others-of a (h .live) x m .0) has) ∙ nowhere))
+  done-stray h (Read a n) value nowhere not-granted = nowhere
+  done-stray h (Write a n) value nowhere not-granted = nowhere
+  done-stray h (Refused answer) value nowhere not-granted = nowhere
+
+  heard-stray : (h : History) (log : List Exchange) → lies-in (h .live) b ≡ false → ((z : Exchange) → z ∈ log → Grants z b → ⊥)
+      → lies-in (heard-all h log .live) b ≡ false
+  unfolding heard-all
+  heard-stray h [] nowhere not-granted = nowhere
+  heard-stray h (x ∷ log) nowhere not-granted =
+      heard-stray (heard h x) log
+      (by-heard h x (λ g. lies-in (g .live) b ≡ false) nowhere
+      (λ value says-status says-value.
+      done-stray h (asks x) value nowhere
+      (λ s e has.
+      not-granted x (List·Memᴰ·head refl)
+      (record { size = s; address = value; asked = e; done = says-status; value = says-value; has = has }))))
+      (λ z m. not-granted z (List·Memᴰ·tail m))
+
+-- once a block is released, no other live block has a byte of it
+others-stray : {S R Q : ℕ} {shadow table : List ℕ} {h : History} → Stands S R Q shadow table h
+    → (y : Block) → y ∈ h .live → (b : ℕ) → has-byte y b ≡ true → lies-in (others (y .address) (h .live)) b ≡ false
+others-stray {table = table} {h = h} stands y in-y b has-b =
+    let row : (i : ℕ) × (i < rows table) × (state table i ≡ live) × (of-row table i ≡ y) = stands .standing .lives .row y in-y in
+    let range : (granule * start table (row .0) ≤ b) × (b < granule * start table (row .0) + size table (row .0)) =
+    has-byte-true (of-row table (row .0)) b (ap (λ w. has-byte w b) (row .3) ∙ has-b) in
+    lies-in-not (others (y .address) (h .live)) b
+    (λ z in-z has-z.
+    let other : (z ∈ h .live) × (z .address ≢ y .address) = others-of (y .address) (h .live) z in-z in
+    let row′ : (j : ℕ) × (j < rows table) × (state table j ≡ live) × (of-row table j ≡ z) = stands .standing .lives .row z (other .0) in
+    one-row stands (row .0) (row′ .0) (record { below = row .1; has = inl (row .2) }) (record { below = row′ .1; has = inl (row′ .2) })
+    (λ e. other .1 (ap (λ w. w .address) (sym (row′ .3)) ∙ ap (λ k. granule * start table k) (sym e) ∙ ap (λ w. w .address) (row .3))) b
+    (range .0) (omega (arith, range .1, granules-enough (size table (row .0))))
+    (ap (λ w. has-byte w b) (row′ .3) ∙ has-z))
+
+pub until-granted : UntilGranted
+unfolding history heard-all done
+until-granted r before between gone x line c asks-release is-done y in-y at-c b has-b not-granted a n touches from below =
+    let before-gone : Line r before gone = record {
+      after = between ++ (x ∷ line .after);
+      is = line .is ∙ append-assoc before (gone ∷ between) (x ∷ line .after);
+    } in
+    let m : Moment (HoldsOf r) (history before) gone = line-moment r before gone before-gone in
+    let h : History = history before in
+    let v : ℕ = in-numbers (act-line (m .st) .answer) .value in
+    let released : heard h gone ≡ done h (Release c) v =
+    heard-done h gone v is-done (m .value-is) ∙ ap (λ frame. done h frame v) asks-release in
+    let left : lies-in (others c (h .live)) b ≡ false =
+    subst (λ d. lies-in (others d (h .live)) b ≡ false) at-c (others-stray (m .holds .stands) y in-y b has-b) in
+    let stray : lies-in (history (before ++ (gone ∷ between)) .live) b ≡ false =
+    ap (λ g. lies-in (g .live) b) (heard-append nothing-yet before (gone ∷ between))
+    ∙ heard-stray b (heard h gone) between (ap (λ g. lies-in (g .live) b) released ∙ left) not-granted in
+    reported r (before ++ (gone ∷ between)) x line a n touches .reported .1 (b, record { from = from; below = below; nowhere = stray })

@@ -1,0 +1,219 @@
+-- That blocks stay laid: by a grant at a place that fits, by a row that becomes quarantined, and by an eviction; and that a place fits
+-- exactly where it is a redzone away from every held row. Assumes nothing.
+use Prim.Native.Nat.{ℕ, zero, suc, _+_, _-_, _*_, _/_, _≤_, _<_, max}
+use native.Mathlib.Omega.{arith}
+use mathlib.Core.Path.{_≡_, refl, sym, ap, ap₂, subst, _∙_}
+use mathlib.Core.Logic.{_≢_, _⊎_, inl, inr, ⊎-elim}
+use mathlib.Core.List.{List, [], _∷_}
+use lib.ListN.{length, getD, replicate, length-replicate, getD-replicate}
+use Rattle.rules.specs.Limits.{granule, redzone-byte, released-byte, empty, live, quarantined}
+use Rattle.rules.specs.Put.{put}
+use Rattle.rules.specs.Table.{rows, column, start, size, state, put-row}
+use Rattle.rules.specs.Grant.{granules, granted}
+use Rattle.rules.specs.Release.{Pool, in-quarantine, evict-row, quarantine-row}
+use Rattle.rules.proofs.Tests.{by-order}
+use Rattle.rules.proofs.Put.{length-put, put-in, put-before, put-after}
+use Rattle.rules.proofs.Table.{rows-same, length-put-row, column-put-row, column-put-row-other}
+use Rattle.rules.proofs.Grant.{granules-above, granules-least, Fits, length-granted, granted-whole, granted-last}
+use Rattle.rules.proofs.Release.{evict-row-rows, evict-row-empty, evict-row-other, evict-row-turn, evict-row-own-turn, evict-row-shadow, paint-row-length, paint-row-in, paint-row-before, paint-row-after, quarantine-row-lengths, quarantine-row-own, quarantine-row-other}
+use Rattle.promises.specs.Rows.{Held}
+use Rattle.promises.proofs.Laid.{ends, Off, Laid, laid-repainted}
+
+-- ---- an opening
+
+-- every number of a table of zeros is 0
+pub zeros-at : (m k : ℕ) → getD {A = ℕ} (replicate m 0) k 0 ≡ 0
+zeros-at zero k = refl
+zeros-at (suc m) zero = refl
+zeros-at (suc m) (suc k) = zeros-at m k
+
+-- a table of zeros and a shadow of fa are laid
+pub laid-opening : (S R n : ℕ) → Laid S R (replicate S redzone-byte) (replicate n 0)
+unfolding column
+laid-opening S R n =
+    let zero-at : (k : ℕ) → getD {A = ℕ} (replicate n 0) k 0 ≡ 0 = zeros-at n in
+    let nothing : (i : ℕ) → Held (replicate n 0) i → ⊥ = λ i h. none-held i (zero-at (4 * i + 2)) (h .has) in
+    record {
+      of-shadow = length-replicate S redzone-byte;
+      states = λ i below. inl (zero-at (4 * i + 2));
+      zeros = λ i below is. (zero-at (4 * i + 0), zero-at (4 * i + 1), zero-at (4 * i + 3));
+      live-turn = λ i below is. zero-at (4 * i + 3);
+      sized = λ i h. absurd (nothing i h);
+      low = λ i h. absurd (nothing i h);
+      high = λ i h. absurd (nothing i h);
+      apart = λ i j h. absurd (nothing i h);
+      of-live = λ i below is. absurd (omega (arith, zero-at (4 * i + 2)));
+      of-quarantined = λ i below is. absurd (omega (arith, zero-at (4 * i + 2)));
+      of-none = λ g in-arena off. getD-replicate S g redzone-byte 0 in-arena;
+    }
+  where
+    none-held : {v : ℕ} (i : ℕ) → v ≡ 0 → (v ≡ live) ⊎ (v ≡ quarantined) → ⊥
+    none-held i e (inl is) = omega arith
+    none-held i e (inr is) = omega arith
+
+-- ---- what stands in a block's granules
+
+-- no byte of a granted block is 8 or more
+pub granted-small : (s k : ℕ) → k < granules s → getD (granted s) k 0 < granule
+granted-small s k in-block =
+    by-order k (s / granule)
+    (λ whole. omega (arith, granted-whole s k whole))
+    (λ last.
+    let is-last : k ≡ s / granule = omega (arith, granules-least s) in
+    omega (arith, ap (λ m. getD (granted s) m 0) is-last, granted-last s))
+
+module _ {S R : ℕ} {shadow table : List ℕ} (laid : Laid S R shadow table) where
+  -- a held row's granules are not fa
+  not-free : (j : ℕ) → Held table j → (g : ℕ) → start table j ≤ g → g < ends table j → getD shadow g 0 ≢ redzone-byte
+  not-free j h g from below free =
+      ⊎-elim {C = ⊥}
+      (λ is.
+      let at : start table j + (g - start table j) ≡ g = omega arith in
+      let in-block : g - start table j < granules (size table j) = omega arith in
+      omega (arith, ap (λ m. getD shadow m 0) at, laid .of-live j (h .below) is (g - start table j) in-block, granted-small (size table j) (g - start table j) in-block))
+      (λ is. omega (arith, laid .of-quarantined j (h .below) is g from below))
+      (h .has)
+
+  -- a place fits exactly where it is a redzone away from every held row
+  pub fits-clear : (u p : ℕ) → 0 < u → Fits shadow R u p → (j : ℕ) → Held table j → (ends table j + R ≤ p) ⊎ (p + u + R ≤ start table j)
+  fits-clear u p above fits j h =
+      let sized : 0 < granules (size table j) = granules-above (size table j) (laid .sized j h) in
+      let low : R ≤ p = fits .low in
+      by-order (p - R) (ends table j)
+      (λ overlap.
+      by-order (start table j) (p + u + R)
+      (λ overlap′.
+      let g : ℕ = max (start table j) (p - R) in
+      absurd (not-free j h g (omega arith) (omega arith) (fits .free g (omega arith) (omega arith))))
+      (λ right. inr right))
+      (λ left. inl (omega arith))
+
+  pub clear-fits : (u p : ℕ) → R ≤ p → p + u + R ≤ S → ((j : ℕ) → Held table j → (ends table j + R ≤ p) ⊎ (p + u + R ≤ start table j)) → Fits shadow R u p
+  clear-fits u p low high clear = record {
+    low = low;
+    high = omega (arith, laid .of-shadow);
+    free = λ g from below.
+        laid .of-none g (omega arith)
+        (λ j h. ⊎-elim {C = Off table j g} (λ left. inr (omega arith)) (λ right. inl (omega arith)) (clear j h));
+  }
+
+  -- ---- a grant of s bytes at p, into row i
+
+  module _ (i s p : ℕ) (below : i < rows table) (is-empty : state table i ≡ empty) (sized : 0 < s) (fits : Fits shadow R (granules s) p) where
+    not-held : Held table i → ⊥
+    not-held h = ⊎-elim {C = ⊥} (λ is. omega arith) (λ is. omega arith) (h .has)
+
+    own : (k : ℕ) → k < 4 → column k (put-row table i p s live 0) i ≡ getD (p ∷ s ∷ live ∷ 0 ∷ []) k 0
+    own k in-row = column-put-row table i p s live 0 below k in-row
+
+    inside : p + length (granted s) ≤ length shadow
+    inside = omega (arith, fits .high, length-granted s)
+
+    pub laid-grant : Laid S R (put shadow p (granted s)) (put-row table i p s live 0)
+    laid-grant =
+        laid-repainted {lo = p} {hi = p + granules s} laid
+        (record {
+          below = below;
+          same-rows = rows-same (put-row table i p s live 0) table (length-put-row table i p s live 0 below);
+          same-length = length-put shadow p (granted s) inside;
+          other = λ k j in-row other. column-put-row-other table i p s live 0 below k j (omega arith) other;
+          other-turn = λ j in-rows other was. column-put-row-other table i p s live 0 below 3 j (omega arith) other ∙ was;
+          beside =
+              λ g beside.
+              ⊎-elim
+              (λ left. put-before shadow p (granted s) g 0 (omega (arith, inside)) left)
+              (λ right. put-after shadow p (granted s) g 0 (omega (arith, inside)) (omega (arith, length-granted s)))
+              beside;
+          clear = λ j other h. fits-clear (granules s) p (granules-above s sized) fits j h;
+          before = λ h. absurd (not-held h);
+          states = inr (inl (own 2 (omega arith)));
+          zeros = λ is. absurd (omega (arith, own 2 (omega arith)));
+          live-turn = λ is. own 3 (omega arith);
+          after = λ h. (
+            own 0 (omega arith),
+            ap₂ (λ a b. a + granules b) (own 0 (omega arith)) (own 1 (omega arith)),
+            omega (arith, own 1 (omega arith)),
+            fits .low,
+            omega (arith, fits .high, laid .of-shadow),
+          );
+          of-live =
+              λ is k in-block.
+              let in-block′ : k < granules s = subst (λ b. k < granules b) (own 1 (omega arith)) in-block in
+              ap (λ a. getD (put shadow p (granted s)) (a + k) 0) (own 0 (omega arith))
+              ∙ put-in shadow p (granted s) k 0 (omega (arith, inside)) (omega (arith, length-granted s))
+              ∙ ap (λ b. getD (granted b) k 0) (sym (own 1 (omega arith)));
+          of-quarantined = λ is. absurd (omega (arith, own 2 (omega arith)));
+          of-none = λ is. absurd (omega (arith, own 2 (omega arith)));
+        })
+
+-- ---- a row's granules repainted
+
+module _ {S R : ℕ} (pool : Pool) (laid : Laid S R (pool .shadow) (pool .table)) (i : ℕ) (h : Held (pool .table) i) where
+  clear-of : (j : ℕ) → j ≢ i → Held (pool .table) j → (ends (pool .table) j + R ≤ start (pool .table) i) ⊎ (ends (pool .table) i + R ≤ start (pool .table) j)
+  clear-of j other held = laid .apart j i held h other
+
+  in-arena : (g : ℕ) → g < ends (pool .table) i → g < length (pool .shadow)
+  in-arena g below = omega (arith, laid .high i h, laid .of-shadow)
+
+  -- row i becomes quarantined
+  pub laid-quarantine : Laid S R (quarantine-row pool i .shadow) (quarantine-row pool i .table)
+  unfolding quarantine-row
+  laid-quarantine =
+      let own : (k : ℕ) → k < 4 → column k (quarantine-row pool i .table) i ≡ getD (start (pool .table) i ∷ size (pool .table) i ∷ quarantined ∷ (in-quarantine (pool .table) + 1) ∷ []) k 0 =
+      quarantine-row-own pool i (h .below) in
+      laid-repainted {lo = start (pool .table) i} {hi = ends (pool .table) i} laid
+      (record {
+        below = h .below;
+        same-rows = rows-same (quarantine-row pool i .table) (pool .table) (quarantine-row-lengths pool i (h .below) .1);
+        same-length = quarantine-row-lengths pool i (h .below) .0;
+        other = λ k j in-row other. quarantine-row-other pool i (h .below) k j (omega arith) other;
+        other-turn = λ j in-rows other was. quarantine-row-other pool i (h .below) 3 j (omega arith) other ∙ was;
+        beside =
+            λ g beside.
+            ⊎-elim (λ left. paint-row-before pool i released-byte g left) (λ right. paint-row-after pool i released-byte g right) beside;
+        clear = clear-of;
+        before = λ held. (refl, refl);
+        states = inr (inr (own 2 (omega arith)));
+        zeros = λ is. absurd (omega (arith, own 2 (omega arith)));
+        live-turn = λ is. absurd (omega (arith, own 2 (omega arith)));
+        after = λ held. (
+          own 0 (omega arith),
+          ap₂ (λ a b. a + granules b) (own 0 (omega arith)) (own 1 (omega arith)),
+          omega (arith, own 1 (omega arith), laid .sized i h),
+          laid .low i h,
+          laid .high i h,
+        );
+        of-live = λ is. absurd (omega (arith, own 2 (omega arith)));
+        of-quarantined = λ is g from below. paint-row-in pool i released-byte g from below (in-arena g below);
+        of-none = λ is. absurd (omega (arith, own 2 (omega arith)));
+      })
+
+  -- row i is evicted
+  pub laid-evict : Laid S R (evict-row pool i .shadow) (evict-row pool i .table)
+  laid-evict =
+      let emptied : (k : ℕ) → k < 3 → column k (evict-row pool i .table) i ≡ 0 = evict-row-empty pool i (h .below) in
+      let not-now : Held (evict-row pool i .table) i → ⊥ =
+      λ held. ⊎-elim {C = ⊥} (λ is. omega (arith, emptied 2 (omega arith))) (λ is. omega (arith, emptied 2 (omega arith))) (held .has) in
+      laid-repainted {lo = start (pool .table) i} {hi = ends (pool .table) i} laid
+      (record {
+        below = h .below;
+        same-rows = evict-row-rows pool i (h .below);
+        same-length = ap length (evict-row-shadow pool i) ∙ paint-row-length pool i redzone-byte;
+        other = λ k j in-row other. evict-row-other pool i (h .below) k j in-row other;
+        other-turn = λ j in-rows other was. omega (arith, evict-row-turn pool i (h .below) j in-rows other);
+        beside =
+            λ g beside.
+            ap (λ l. getD l g 0) (evict-row-shadow pool i)
+            ∙ ⊎-elim (λ left. paint-row-before pool i redzone-byte g left) (λ right. paint-row-after pool i redzone-byte g right) beside;
+        clear = clear-of;
+        before = λ held. (refl, refl);
+        states = inl (emptied 2 (omega arith));
+        zeros = λ is. (emptied 0 (omega arith), emptied 1 (omega arith), evict-row-own-turn pool i (h .below));
+        live-turn = λ is. evict-row-own-turn pool i (h .below);
+        after = λ held. absurd (not-now held);
+        of-live = λ is. absurd (omega (arith, emptied 2 (omega arith)));
+        of-quarantined = λ is. absurd (omega (arith, emptied 2 (omega arith)));
+        of-none =
+            λ is g from below in-arena·.
+            ap (λ l. getD l g 0) (evict-row-shadow pool i) ∙ paint-row-in pool i redzone-byte g from below (in-arena g below);
+      })

@@ -1,0 +1,23 @@
+-- The user's demands, each proved
+pub mod Demands
+-- in their order
+pub mod Total
+pub mod Published
+pub mod Cutting
+pub mod Accesses
+pub mod Held
+pub mod Shape
+-- from the bytes of a text and its report to the states in between
+pub mod Lines
+pub mod Digits
+pub mod History
+pub mod Replay
+-- the invariant: how blocks lie, which are live, which are quarantined, and that every line keeps it
+pub mod Invariant
+pub mod Laid
+pub mod Kept
+pub mod Blocks
+pub mod Standing
+pub mod Latest
+pub mod Queue
+pub mod Drawn

@@ -1,0 +1,73 @@
+-- Demand 3, history: a read or write is reported exactly when it touches a byte in no block granted and not yet released.
+use Prim.Native.Nat.{ℕ, _+_, _*_, _≤_, _<_}
+use mathlib.Core.Path.{_≡_}
+use mathlib.Core.Logic.{_≢_, _↔_, _⊎_}
+use mathlib.Core.Bool.{true, false}
+use mathlib.Core.Option.{some}
+use mathlib.Core.List.{List, _∷_, _++_}
+use lib.ListN.{length}
+use Rattle.rules.specs.declared.Frame.the-variants.{Grant, Release, Read, Write}
+use Rattle.rules.specs.Limits.{granule}
+use Rattle.rules.specs.Grant.{counted}
+use Rattle.promises.specs.History.{Exchange, asks, status-of, value-of, Block, block, has-byte, lies-in, history, held}
+use Rattle.promises.specs.Replay.{Replay, Line, happened}
+use Rattle.promises.specs.Rows.{_∈_}
+
+-- the line reads or writes n bytes at a
+abbrev pub Touches : Exchange → ℕ → ℕ → Type 0
+Touches x a n = (asks x ≡ Read a n) ⊎ (asks x ≡ Write a n)
+
+-- b is one of the n bytes at a, and lies in none of the blocks
+pub record Stray (blocks : List Block) (a n b : ℕ) : Type 0 where
+  pub from : a ≤ b
+  pub below : b < a + n
+  pub nowhere : lies-in blocks b ≡ false
+
+-- answered 09 exactly when one of its bytes lies in none of the blocks, and else 00
+pub record ReportedBy (blocks : List Block) (a n : ℕ) (x : Exchange) : Type 0 where
+  pub reported : (status-of x ≡ some 9) ↔ ((b : ℕ) × Stray blocks a n b)
+  pub passed : (status-of x ≡ some 0) ↔ (((b : ℕ) × Stray blocks a n b) → ⊥)
+
+-- of every line, by the blocks granted and not yet released by the lines before
+abbrev pub Reported : Type 0
+Reported = (r : Replay) (before : List Exchange) (x : Exchange) → Line r before x → (a n : ℕ) → Touches x a n
+    → ReportedBy (history before .live) a n x
+
+-- the value is the least such byte
+pub record First (blocks : List Block) (a n : ℕ) (x : Exchange) : Type 0 where
+  pub byte : ℕ
+  pub value : value-of x ≡ some byte
+  pub stray : Stray blocks a n byte
+  pub least : (c : ℕ) → Stray blocks a n c → byte ≤ c
+
+abbrev pub FirstBadByte : Type 0
+FirstBadByte = (r : Replay) (before : List Exchange) (x : Exchange) → Line r before x → (a n : ℕ) → Touches x a n
+    → status-of x ≡ some 9 → First (history before .live) a n x
+
+-- bytes outside the arena lie in no block
+abbrev pub OutsideNowhere : Type 0
+OutsideNowhere = (r : Replay) (b : ℕ) → granule * length (r .shadow) ≤ b → lies-in (happened r .live) b ≡ false
+
+-- an access that touches bytes of two different held blocks is always reported
+abbrev pub TwoBlocks : Type 0
+TwoBlocks = (r : Replay) (before : List Exchange) (x : Exchange) → Line r before x → (a n : ℕ) → Touches x a n
+    → (y z : Block) → y ∈ held (r .redzone) (r .quarantine) (history before) → z ∈ held (r .redzone) (r .quarantine) (history before) → y ≢ z
+    → (b c : ℕ) → a ≤ b → b < a + n → has-byte y b ≡ true → a ≤ c → c < a + n → has-byte z c ≡ true
+    → status-of x ≡ some 9
+
+-- the line grants byte b
+pub record Grants (x : Exchange) (b : ℕ) : Type 0 where
+  pub size : ℕ
+  pub address : ℕ
+  pub asked : asks x ≡ Grant size
+  pub done : status-of x ≡ some 0
+  pub value : value-of x ≡ some address
+  pub has : has-byte (block address (counted size)) b ≡ true
+
+-- a released block's bytes are reported from its release until a later grant covers them
+abbrev pub UntilGranted : Type 0
+UntilGranted = (r : Replay) (before between : List Exchange) (gone x : Exchange) → Line r (before ++ (gone ∷ between)) x
+    → (c : ℕ) → asks gone ≡ Release c → status-of gone ≡ some 0
+    → (y : Block) → y ∈ history before .live → y .address ≡ c
+    → (b : ℕ) → has-byte y b ≡ true → ((z : Exchange) → z ∈ between → Grants z b → ⊥)
+    → (a n : ℕ) → Touches x a n → a ≤ b → b < a + n → status-of x ≡ some 9
