@@ -1,6 +1,6 @@
 -- Reads and writes from an opening: reported exactly when a byte lies in no live block of the history, with the least such byte; and
 -- what follows of two blocks and of a released one. Assumes nothing.
-use Prim.Native.Nat.{ℕ, _+_, _*_, _≤_, _<_}
+use Prim.Native.Nat.{ℕ, _+_, _-_, _*_, _≤_, _<_, _^_, _/_, _%_}
 use native.Mathlib.Decide.{ℕ-discrete}
 use native.Mathlib.Omega.{arith}
 use mathlib.Core.Path.{_≡_, refl, sym, ap, subst, _∙_}
@@ -8,29 +8,31 @@ use mathlib.Core.Logic.{_≢_, _⊎_, inl, inr, ⊎-elim}
 use mathlib.Core.Bool.{true, false, true≢false}
 use mathlib.Core.Option.{some}
 use mathlib.Core.List.{List, [], _∷_, _++_, append-assoc, List·Memᴰ·head, List·Memᴰ·tail, List·Memᴰ·cases-cons}
-use Rattle.rules.specs.declared.Answer.the-variants.{NotGood}
+use lib.ListN.{length, getD}
+use Rattle.rules.specs.declared.Answer.the-variants.{Done, NotGood}
 use Rattle.rules.specs.declared.Frame.{Frame}
 use Rattle.rules.specs.declared.Frame.the-variants.{Grant, Release, Read, Write, Refused}
 use Rattle.rules.specs.Limits.{granule, live, quarantined}
 use Rattle.rules.specs.Table.{rows, start, size, state}
-use Rattle.rules.specs.Shadow.{addressable, kind, first-bad}
+use Rattle.rules.specs.Shadow.{addressable, kind, first-bad, shadow-of}
 use Rattle.rules.specs.Answers.{in-numbers, status}
-use Rattle.rules.specs.Grant.{counted}
+use Rattle.rules.specs.Grant.{counted, granules, granted}
 use Rattle.rules.specs.Feed.{State, access, act, act-line}
 use Rattle.rules.proofs.Tests.{by-found, by-order}
-use Rattle.rules.proofs.Shadow.{FirstBad, first-bad-some, first-bad-none, not-inside}
-use Rattle.rules.proofs.Grant.{granules-enough}
+use Rattle.rules.proofs.Shadow.{FirstBad, first-bad-some, first-bad-none, not-inside, kind-inside, kind-outside}
+use Rattle.rules.proofs.Grant.{granules-enough, granules-least, granted-last}
 use Rattle.rules.proofs.Refusals.{access-good, access-bad}
-use Rattle.promises.specs.History.{Exchange, asks, status-of, Block, block, has-byte, lies-in, others, History, nothing-yet, done, heard, heard-all, history}
+use Rattle.promises.specs.History.{held, Exchange, asks, status-of, Block, block, has-byte, lies-in, others, History, nothing-yet, done, heard, heard-all, history, value-of, kind-of, latest}
 use Rattle.promises.specs.Replay.{Replay, Line, ran, happened}
-use Rattle.promises.specs.Rows.{_∈_, Held, of-row}
-use Rattle.promises.specs.Accesses.{Touches, Stray, Reported, First, FirstBadByte, TwoBlocks, Grants, UntilGranted, OutsideNowhere}
+use Rattle.promises.specs.Rows.{_∈_, Held, of-row, past}
+use Rattle.promises.specs.Accesses.{Touches, Stray, Reported, First, FirstBadByte, TwoBlocks, Grants, UntilGranted, OutsideNowhere, KindBy, Kinds}
 use Rattle.promises.proofs.History.{heard-done, by-heard, heard-append}
 use Rattle.promises.proofs.Replay.{Moment, acted-on, one-status}
-use Rattle.promises.proofs.Blocks.{has-byte-true, lies-in-is, lies-in-not, others-of}
-use Rattle.promises.proofs.Laid.{ends}
-use Rattle.promises.proofs.Drawn.{addressable-lies}
-use Rattle.promises.proofs.Invariant.{Stands, HoldsOf, line-moment, replay-holds, held-row}
+use Rattle.promises.proofs.Blocks.{has-byte-true, lies-in-is, lies-in-not, others-of, has-byte-is}
+use Rattle.promises.proofs.Laid.{ends, Laid, Off}
+use Rattle.promises.proofs.Queue.{queue-row}
+use Rattle.promises.proofs.Drawn.{addressable-lies, live-byte, byte-fits}
+use Rattle.promises.proofs.Invariant.{Stands, HoldsOf, line-moment, replay-holds, held-row, row-held}
 
 -- ---- the answer to an access
 
@@ -40,17 +42,76 @@ unfolding act
 access-answer m a n (inl e) = ap (λ acted. acted .answer) (acted-on m (Read a n) e)
 access-answer m a n (inr e) = ap (λ acted. acted .answer) (acted-on m (Write a n) e)
 
+-- ---- the kind of a bad byte
+
+module _ {S R Q : ℕ} {shadow table : List ℕ} {h : History} (stands : Stands S R Q shadow table h) where
+  kind-fits : (b : ℕ) → kind shadow b < 16 ^ 2
+  unfolding shadow-of
+  kind-fits b =
+      let of-shadow : length shadow ≡ S = stands .standing .laid .of-shadow in
+      by-order b (granule * length shadow)
+      (λ in-arena. omega (arith, kind-inside shadow b in-arena, byte-fits (stands .standing .laid) (b / granule) (omega arith)))
+      (λ beyond. omega (arith, kind-outside shadow b beyond))
+
+  kind-by : (b : ℕ) → lies-in (h .live) b ≡ false → KindBy S (h .live) (latest R Q (h .released)) b (kind shadow b)
+  unfolding shadow-of past held
+  kind-by b nowhere =
+      let laid : Laid S R shadow table = stands .standing .laid in
+      let of-shadow : length shadow ≡ S = laid .of-shadow in
+      record {
+        outside = λ beyond. kind-outside shadow b (omega arith);
+        released = λ y m from below.
+            let row : (i : ℕ) × (i < rows table) × (state table i ≡ quarantined) × (of-row table i ≡ y) =
+            queue-row R table (latest R Q (h .released)) (stands .queue) y m in
+            let first : granule * start table (row .0) ≡ y .address = ap (λ w. w .address) (row .3) in
+            let size-is : size table (row .0) ≡ y .size = ap (λ w. w .size) (row .3) in
+            let granules-are : granules (size table (row .0)) ≡ granules (y .size) = ap granules size-is in
+            let high : ends table (row .0) + R ≤ S = laid .high (row .0) (record { below = row .1; has = inr (row .2) }) in
+            kind-inside shadow b (omega arith) ∙ laid .of-quarantined (row .0) (row .1) (row .2) (b / granule) (omega arith) (omega arith);
+        past-the-end = λ y m from below.
+            let row : (i : ℕ) × (i < rows table) × (state table i ≡ live) × (of-row table i ≡ y) = stands .standing .lives .row y m in
+            let first : granule * start table (row .0) ≡ y .address = ap (λ w. w .address) (row .3) in
+            let size-is : size table (row .0) ≡ y .size = ap (λ w. w .size) (row .3) in
+            let granules-are : granules (size table (row .0)) ≡ granules (y .size) = ap granules size-is in
+            let own : Held table (row .0) = record { below = row .1; has = inl (row .2) } in
+            let high : ends table (row .0) + R ≤ S = laid .high (row .0) own in
+            let beyond : y .address + y .size ≤ b =
+            by-order b (y .address + y .size)
+            (λ inside. absurd (true≢false (sym (lies-in-is (h .live) b y m (has-byte-is y b from inside)) ∙ nowhere)))
+            (λ past·. past·) in
+            let last : b / granule - start table (row .0) ≡ size table (row .0) / granule = omega (arith, granules-least (size table (row .0))) in
+            kind-inside shadow b (omega arith)
+            ∙ live-byte laid (row .0) (b / granule) (record { held = own; from = omega arith; below = omega arith }) (row .2)
+            ∙ ap (λ g. getD (granted (size table (row .0))) g 0) last
+            ∙ granted-last (size table (row .0))
+            ∙ ap (λ s. s % granule) size-is;
+        elsewhere = λ in-arena off.
+            kind-inside shadow b (omega arith)
+            ∙ laid .of-none (b / granule) (omega arith)
+            (λ i own.
+            ⊎-elim {C = Off table i (b / granule)}
+            (λ left. inl (omega arith)) (λ right. inr (omega arith)) (off (of-row table i) (row-held stands i own)));
+      }
+
+-- ---- every access
+
 -- reported with its first stray byte, or passed with none
-record Bad (blocks : List Block) (x : Exchange) (a n : ℕ) : Type 0 where
+record Bad (S : ℕ) (blocks quarantine : List Block) (x : Exchange) (a n : ℕ) : Type 0 where
   pub status-is : status-of x ≡ some 9
   pub first : First blocks a n x
+  pub kind : (k : ℕ) × (kind-of x ≡ some k) × KindBy S blocks quarantine (first .byte) k
 
 record Passed (blocks : List Block) (x : Exchange) (a n : ℕ) : Type 0 where
   pub status-is : status-of x ≡ some 0
+  pub value-is : value-of x ≡ some 0
   pub none-stray : (b : ℕ) → Stray blocks a n b → ⊥
 
+-- of a replay's line
+abbrev BadIn : Replay → List Exchange → Exchange → ℕ → ℕ → Type 0
+BadIn r before = Bad (length (r .shadow)) (history before .live) (latest (r .redzone) (r .quarantine) (history before .released))
+
 judged : (r : Replay) (before : List Exchange) (x : Exchange) → Line r before x → (a n : ℕ) → Touches x a n
-    → Bad (history before .live) x a n ⊎ Passed (history before .live) x a n
+    → BadIn r before x a n ⊎ Passed (history before .live) x a n
 unfolding status in-numbers
 judged r before x line a n touches =
     let m : Moment (HoldsOf r) (history before) x = line-moment r before x line in
@@ -62,44 +123,63 @@ judged r before x line a n touches =
     (λ b e.
     let f : FirstBad shadow a n b = first-bad-some shadow a n b e in
     let answer : act-line (m .st) .answer ≡ NotGood (kind shadow b) b = access-answer m a n touches ∙ access-bad shadow a n b e in
+    let kind-is : in-numbers (act-line (m .st) .answer) .kind ≡ kind shadow b = ap (λ c. in-numbers c .kind) answer in
+    let stray : lies-in blocks b ≡ false = sym (same b) ∙ f .bad in
     inl
     (record {
       status-is = m .status-is ∙ ap (λ c. some (status c)) answer;
       first = record {
         byte = b;
         value = m .value-is ∙ ap (λ c. some (in-numbers c .value)) answer;
-        stray = record { from = f .from; below = f .below; nowhere = sym (same b) ∙ f .bad };
+        stray = record { from = f .from; below = f .below; nowhere = stray };
         least =
             λ c s. by-order c b (λ less. absurd (true≢false (sym (f .first c (s .from) less) ∙ same c ∙ s .nowhere))) (λ more. more);
       };
+      kind = (kind shadow b, m .kind-is (omega (arith, kind-fits stands b)) ∙ ap some kind-is, kind-by stands b stray);
     }))
     (λ e.
+    let answer : act-line (m .st) .answer ≡ Done 0 = access-answer m a n touches ∙ access-good shadow a n e in
     inr
     (record {
-      status-is = m .status-is ∙ ap (λ c. some (status c)) (access-answer m a n touches ∙ access-good shadow a n e);
+      status-is = m .status-is ∙ ap (λ c. some (status c)) answer;
+      value-is = m .value-is ∙ ap (λ c. some (in-numbers c .value)) answer;
       none-stray = λ b s. true≢false (sym (first-bad-none shadow a n e b (s .from) (s .below)) ∙ same b ∙ s .nowhere);
     }))
 
--- ---- history, and the first bad byte
+-- ---- history, the first bad byte and its kind
 
 pub reported : Reported
 reported r before x line a n touches =
     ⊎-elim
-    (λ (bad : Bad (history before .live) x a n). record {
+    (λ (bad : BadIn r before x a n). record {
       reported = (λ e. (bad .first .byte, bad .first .stray), λ s. bad .status-is);
       passed = (λ e. absurd (omega (arith, one-status (bad .status-is) e)), λ none·. absurd (none· (bad .first .byte, bad .first .stray)));
+      passed-value = λ e. absurd (omega (arith, one-status (bad .status-is) e));
     })
     (λ (good : Passed (history before .live) x a n). record {
       reported = (λ e. absurd (omega (arith, one-status (good .status-is) e)), λ s. absurd (good .none-stray (s .0) (s .1)));
       passed = (λ e. λ s. good .none-stray (s .0) (s .1), λ none·. good .status-is);
+      passed-value = λ e. good .value-is;
     })
     (judged r before x line a n touches)
 
 pub first-bad-byte : FirstBadByte
 first-bad-byte r before x line a n touches e =
     ⊎-elim
-    (λ (bad : Bad (history before .live) x a n). bad .first)
+    (λ (bad : BadIn r before x a n). bad .first)
     (λ (good : Passed (history before .live) x a n). absurd (omega (arith, one-status (good .status-is) e)))
+    (judged r before x line a n touches)
+
+pub kinds : Kinds
+kinds r before x line a n touches is-bad b says-value =
+    ⊎-elim
+    (λ (bad : BadIn r before x a n). (
+      bad .kind .0,
+      bad .kind .1,
+      subst (λ c. KindBy (length (r .shadow)) (history before .live) (latest (r .redzone) (r .quarantine) (history before .released)) c (bad .kind .0))
+          (one-status (bad .first .value) says-value) (bad .kind .2),
+    ))
+    (λ (good : Passed (history before .live) x a n). absurd (omega (arith, one-status (good .status-is) is-bad)))
     (judged r before x line a n touches)
 
 -- bytes outside the arena lie in no block

@@ -4,8 +4,8 @@ use Rattle.promises.proofs.Replay.{every-line, same-report}
 use Rattle.promises.proofs.Total.{total, refusals-keep}
 use Rattle.promises.proofs.Published.{shadow-bytes, verdicts, places, map-of-32-bits, map-of-64-bits}
 use Rattle.promises.proofs.Cutting.{cutting, stops-early, goes-on, finishes, so-far}
-use Rattle.promises.proofs.Accesses.{reported, first-bad-byte, outside-nowhere, two-blocks, until-granted}
-use Rattle.promises.proofs.Held.{separation, quarantine, not-again, heavier, never-evicts, placement, releases}
+use Rattle.promises.proofs.Accesses.{reported, first-bad-byte, outside-nowhere, kinds, two-blocks, until-granted}
+use Rattle.promises.proofs.Held.{separation, quarantine, not-again, heavier, never-evicts, evicted, placement, releases, releases-nothing}
 use Rattle.promises.proofs.Shape.{shape, rows-are-blocks, encoding}
 
 pub demand-1 : Demand1
@@ -39,11 +39,14 @@ pub beyond : Beyond
 beyond = record {
   heavier-leaves = heavier;
   a-grant-never-evicts = never-evicts;
+  evicted-count = evicted;
   placement = placement;
   releases = releases;
+  address-0 = releases-nothing;
   shape = shape;
   rows-are-blocks = rows-are-blocks;
   encoding = encoding;
+  kinds = kinds;
   two-blocks-reported = two-blocks;
   reported-until-granted = until-granted;
   answers-so-far = so-far;

@@ -1,5 +1,5 @@
 -- The shadow is the one that the table draws, and of all bytes exactly those of live rows are addressable. Assumes nothing.
-use Prim.Native.Nat.{ℕ, zero, suc, _+_, _-_, _*_, _/_, _%_, _≤_, _<_, zero-le}
+use Prim.Native.Nat.{ℕ, zero, suc, _+_, _-_, _*_, _/_, _%_, _≤_, _<_, zero-le, _^_}
 use native.Mathlib.Nat.{add-zero}
 use native.Mathlib.Decide.{ℕ-discrete}
 use native.Mathlib.Omega.{arith}
@@ -118,7 +118,7 @@ getD-drawn table (suc n) g (suc k) below =
 
 module _ {S R : ℕ} {shadow table : List ℕ} (laid : Laid S R shadow table) where
   -- the byte of a live row's granule
-  live-byte : (i g : ℕ) → Over table g i → state table i ≡ live → getD shadow g 0 ≡ getD (granted (size table i)) (g - start table i) 0
+  pub live-byte : (i g : ℕ) → Over table g i → state table i ≡ live → getD shadow g 0 ≡ getD (granted (size table i)) (g - start table i) 0
   live-byte i g o is =
       let at : start table i + (g - start table i) ≡ g = omega (arith, o .from) in
       ap (λ m. getD shadow m 0) (sym at) ∙ laid .of-live i (o .held .below) is (g - start table i) (omega (arith, o .from, o .below))
@@ -152,6 +152,17 @@ module _ {S R : ℕ} {shadow table : List ℕ} (laid : Laid S R shadow table) wh
       (λ is. inr (negative-from (getD shadow g 0) (omega (arith, laid .of-quarantined i (o .held .below) is g (o .from) (o .below)))))
       (o .held .has))
       (λ e off. inr (negative-from (getD shadow g 0) (omega (arith, laid .of-none g (omega (arith, laid .of-shadow)) off))))
+
+  -- so it fits two digits
+  pub byte-fits : (g : ℕ) → g < S → getD shadow g 0 < 16 ^ 2
+  byte-fits g in-arena =
+      by-granule table g (getD shadow g 0 < 16 ^ 2)
+      (λ i e o.
+      ⊎-elim
+      (λ is. omega (arith, live-byte i g o is, granted-small (size table i) (g - start table i) (omega (arith, o .from, o .below))))
+      (λ is. omega (arith, laid .of-quarantined i (o .held .below) is g (o .from) (o .below)))
+      (o .held .has))
+      (λ e off. omega (arith, laid .of-none g in-arena off))
 
   -- ---- addressable bytes
 

@@ -1,36 +1,38 @@
 -- Held blocks from an opening, read off the invariant: a redzone apart, the quarantine, where a grant goes and when it is refused, that
 -- nothing in quarantine is granted again, and when a release is refused. Assumes nothing.
-use Prim.Native.Nat.{ℕ, _+_, _*_, _≤_, _<_}
+use Prim.Native.Nat.{ℕ, _+_, _*_, _≤_, _<_, _-_}
 use native.Mathlib.Omega.{arith}
-use mathlib.Core.Path.{_≡_, sym, ap, subst, _∙_}
+use mathlib.Core.Path.{_≡_, sym, ap, subst, _∙_, ap₂}
 use mathlib.Core.Logic.{_≢_, _⊎_, inl, inr, ⊎-elim}
 use mathlib.Core.Bool.{true, false}
 use mathlib.Core.Option.{none, some}
-use mathlib.Core.List.{List, _++_, Memᴰ·append-left, Memᴰ·append-right, List·Memᴰ·append-cases}
+use mathlib.Core.List.{List, _++_, Memᴰ·append-left, Memᴰ·append-right, List·Memᴰ·append-cases, [], _∷_}
 use lib.ListN.{length, take, length-take}
 use borrow.Author.Tests.{eqb-true}
+use Rattle.rules.specs.declared.Answer.the-variants.{Done}
 use Rattle.rules.specs.declared.Frame.the-variants.{Grant, Release}
 use Rattle.rules.specs.Limits.{granule, empty, live, quarantined}
 use Rattle.rules.specs.Table.{rows, start, state, is-empty}
 use Rattle.rules.specs.Answers.{in-numbers, status}
-use Rattle.rules.specs.Grant.{counted, granules, place, empty-row, grant-at, grant}
-use Rattle.rules.specs.Release.{row-at, release-row, release}
+use Rattle.rules.specs.Grant.{counted, granules, place, empty-row, grant-at, grant, kept}
+use Rattle.rules.specs.Release.{row-at, release-row, release, Pool, quarantine-row, settle}
 use Rattle.rules.specs.Feed.{act, act-line}
 use Rattle.rules.proofs.Tests.{by-order}
 use Rattle.rules.proofs.Lowest.{Lowest, below-all}
 use Rattle.rules.proofs.Grant.{counted-least, granules-above, Fits, Place, place-some, place-none, empty-row-some, empty-row-none, by-grant, granules-enough, grant-keeps}
-use Rattle.rules.proofs.Release.{StartsAt, row-at-some, row-at-none, by-release}
-use Rattle.promises.specs.History.{Exchange, asks, status-of, value-of, Block, block, has-byte, History, history, latest, held, weigh}
+use Rattle.rules.proofs.Release.{StartsAt, row-at-some, row-at-none, by-release, settle-count, release-nothing}
+use Rattle.promises.specs.History.{Exchange, asks, status-of, value-of, Block, block, has-byte, History, history, latest, held, weigh, at, nothing-yet, done, heard-all}
 use Rattle.promises.specs.Rows.{_∈_, past, Apart, Free, Starts, Held, of-row}
-use Rattle.promises.specs.Held.{NotAgain, PlacedBy, Placement, ReleasedBy, Releases, SeparatedIn, Separation, Quarantine, Heavier, LongestRun, NeverEvicts}
+use Rattle.promises.specs.Held.{NotAgain, PlacedBy, Placement, ReleasedBy, Releases, SeparatedIn, Separation, Quarantine, Heavier, LongestRun, NeverEvicts, Evicted, ReleasesNothing}
+use Rattle.promises.proofs.History.{heard-append, heard-done}
 use Rattle.promises.proofs.Replay.{Moment, acted-on, one-status}
-use Rattle.promises.proofs.Blocks.{has-byte-true, has-byte-not}
+use Rattle.promises.proofs.Blocks.{has-byte-true, has-byte-not, at-one, at-none, others-none}
 use Rattle.promises.proofs.Laid.{ends, Laid}
 use Rattle.promises.proofs.Kept.{fits-clear, clear-fits}
 use Rattle.promises.proofs.Standing.{in-use, in-use-all, in-use-fewer}
-use Rattle.promises.proofs.Latest.{latest-longest, latest-heavy}
-use Rattle.promises.proofs.Queue.{queue-row, queue-block}
-use Rattle.promises.proofs.Invariant.{Stands, Holds, line-moment, replay-holds, held-row, row-held, held-count}
+use Rattle.promises.proofs.Latest.{latest-longest, latest-heavy, latest-again}
+use Rattle.promises.proofs.Queue.{queue-row, queue-block, Queue, queue-quarantine, queue-settle}
+use Rattle.promises.proofs.Invariant.{Stands, Holds, line-moment, replay-holds, held-row, row-held, held-count, HoldsOf, none-at-zero}
 
 -- ---- held blocks stay a redzone apart
 
@@ -126,7 +128,7 @@ module _ {S R Q : ℕ} {shadow table : List ℕ} {h : History} (stands : Stands 
 -- ---- a grant
 
 -- what a grant found, and what it said
-record Done (S R n : ℕ) (blocks : List Block) (s : ℕ) (x : Exchange) : Type 0 where
+record PlacedAt (S R n : ℕ) (blocks : List Block) (s : ℕ) (x : Exchange) : Type 0 where
   pub status-is : status-of x ≡ some 0
   pub place : ℕ
   pub value-is : value-of x ≡ some (granule * place)
@@ -145,7 +147,7 @@ record Nowhere (S R n : ℕ) (blocks : List Block) (s : ℕ) (x : Exchange) : Ty
 
 module _ {S n R Q : ℕ} {h : History} {x : Exchange} (m : Moment (Holds S n R Q) h x) (s : ℕ) (asks-grant : asks x ≡ Grant s) where
   abbrev Found : Type 0
-  Found = Done S R n (held R Q h) s x ⊎ (Full n (held R Q h) x ⊎ Nowhere S R n (held R Q h) s x)
+  Found = PlacedAt S R n (held R Q h) s x ⊎ (Full n (held R Q h) x ⊎ Nowhere S R n (held R Q h) s x)
 
   -- the line does what a grant does
   granted-is : act-line (m .st) ≡ grant R (m .st .shadow) (m .st .table) s
@@ -197,7 +199,7 @@ module _ {S n R Q : ℕ} {h : History} {x : Exchange} (m : Moment (Holds S n R Q
   placed : PlacedBy S R n (held R Q h) s x
   placed =
       ⊎-elim
-      (λ (f : Done S R n (held R Q h) s x). record {
+      (λ (f : PlacedAt S R n (held R Q h) s x). record {
         done = (λ e. (f .row, (f .place, f .free)), λ free. f .status-is);
         lowest = λ e. (f .place, f .value-is, f .free, f .lowest);
         no-row = (λ e. absurd (omega (arith, one-status (f .status-is) e)), λ full. absurd (omega (arith, f .row)));
@@ -233,10 +235,30 @@ not-again r before x line s v asks-grant is-done says-value y in-y b has =
 
 -- ---- a release
 
+-- the number that left: each eviction leaves one fewer
+module _ {S R Q : ℕ} {shadow table : List ℕ} {h : History} (stands : Stands S R Q shadow table h) where
+  evicted-of : (i a : ℕ) → StartsAt live table a i
+      → release-row R Q (record { shadow = shadow; table = table }) i .answer
+      ≡ Done (length (latest R Q (h .released)) + 1 - length (latest R Q (at a (h .live) ++ h .released)))
+  unfolding release-row
+  evicted-of i a found =
+      let pool : Pool = record { shadow = shadow; table = table } in
+      let before : List Block = latest R Q (h .released) in
+      let entered : Queue R (quarantine-row pool i .table) (of-row table i ∷ before) =
+      queue-quarantine R pool before i (found .below) (found .has) (stands .queue) in
+      let left : Queue R (settle R Q (quarantine-row pool i) .pool .table) (latest R Q (of-row table i ∷ before)) =
+      queue-settle R Q (quarantine-row pool i) (of-row table i ∷ before) entered in
+      let own : at a (h .live) ≡ of-row table i ∷ [] =
+      at-one a (h .live) (of-row table i) (stands .standing .lives .distinct) (stands .standing .lives .listed i (found .below) (found .has)) (found .at) in
+      let same : latest R Q (of-row table i ∷ before) ≡ latest R Q (at a (h .live) ++ h .released) =
+      latest-again R Q (of-row table i) (h .released) ∙ ap (λ l. latest R Q (l ++ h .released)) (sym own) in
+      ap Done (omega (arith, settle-count R Q (quarantine-row pool i), entered .count, left .count, ap length same))
+
 -- what a release found, and what it said
-record Gone (live-blocks : List Block) (a : ℕ) (x : Exchange) : Type 0 where
+record Gone (R Q : ℕ) (h : History) (a : ℕ) (x : Exchange) : Type 0 where
   pub status-is : status-of x ≡ some 0
-  pub starts : Starts live-blocks a
+  pub value-is : value-of x ≡ some (length (latest R Q (h .released)) + 1 - length (latest R Q (at a (h .live) ++ h .released)))
+  pub starts : Starts (h .live) a
 
 record Twice (live-blocks quarantine : List Block) (a : ℕ) (x : Exchange) : Type 0 where
   pub status-is : status-of x ≡ some 8
@@ -259,7 +281,7 @@ starts-of xs ys a s = ⊎-elim (λ m. inl (s .0, m, s .2)) (λ m. inr (s .0, m, 
 
 module _ {S n R Q : ℕ} {h : History} {x : Exchange} (m : Moment (Holds S n R Q) h x) (a : ℕ) (asks-release : asks x ≡ Release a) (above : a ≢ 0) where
   abbrev Left : Type 0
-  Left = Gone (h .live) a x
+  Left = Gone R Q h a x
       ⊎ (Twice (h .live) (latest R Q (h .released)) a x ⊎ Foreign (h .live) (latest R Q (h .released)) a x)
 
   -- the line does what a release does
@@ -311,6 +333,7 @@ module _ {S n R Q : ℕ} {h : History} {x : Exchange} (m : Moment (Holds S n R Q
       inl
       (record {
         status-is = m .status-is ∙ ap (λ acted. some (status (acted .answer))) is;
+        value-is = m .value-is ∙ ap (λ acted. some (in-numbers (acted .answer) .value)) is ∙ ap (λ answer. some (in-numbers answer .value)) (evicted-of (m .holds .stands) i a found);
         starts = (of-row table i, m .holds .stands .standing .lives .listed i (found .below) (found .has), found .at);
       }))
       released-is
@@ -319,7 +342,7 @@ module _ {S n R Q : ℕ} {h : History} {x : Exchange} (m : Moment (Holds S n R Q
   left =
       let blocks : List Block = latest R Q (h .released) in
       ⊎-elim
-      (λ (f : Gone (h .live) a x). record {
+      (λ (f : Gone R Q h a x). record {
         done = (λ e. f .starts, λ s. f .status-is);
         twice = (λ e. absurd (omega (arith, one-status (f .status-is) e)), λ t. absurd (t .1 (f .starts)));
         foreign = (λ e. absurd (omega (arith, one-status (f .status-is) e)), λ none·. absurd (none· (starts-left (h .live) blocks a (f .starts))));
@@ -341,3 +364,45 @@ module _ {S n R Q : ℕ} {h : History} {x : Exchange} (m : Moment (Holds S n R Q
 
 pub releases : Releases
 releases r before x line a asks-release above = left (line-moment r before x line) a asks-release above
+
+-- address 0
+pub releases-nothing : ReleasesNothing
+unfolding history heard-all done act status in-numbers
+releases-nothing r before x line asks-nothing =
+    let m : Moment (HoldsOf r) (history before) x = line-moment r before x line in
+    let h : History = history before in
+    let is : act-line (m .st) ≡ kept (Done 0) (m .st .shadow) (m .st .table) =
+    acted-on m (Release 0) asks-nothing ∙ release-nothing (m .st .session .redzone) (m .st .session .quarantine) (m .st .shadow) (m .st .table) in
+    let is-done : status-of x ≡ some 0 = m .status-is ∙ ap (λ acted. some (status (acted .answer))) is in
+    let says-nothing : value-of x ≡ some 0 = m .value-is ∙ ap (λ acted. some (in-numbers (acted .answer) .value)) is in
+    record {
+      done = is-done;
+      value = says-nothing;
+      same =
+          heard-append nothing-yet before (x ∷ [])
+          ∙ heard-done h x 0 is-done says-nothing
+          ∙ ap (λ frame. done h frame 0) asks-nothing
+          ∙ ap₂ (λ live-blocks gone. record { live = live-blocks; released = gone ++ h .released })
+          (others-none 0 (h .live) (none-at-zero (m .holds .stands))) (at-none 0 (h .live) (none-at-zero (m .holds .stands)));
+    }
+
+pub evicted : Evicted
+unfolding history heard-all done
+evicted r before x line a asks-release above is-done =
+    let m : Moment (HoldsOf r) (history before) x = line-moment r before x line in
+    let h : History = history before in
+    let R : ℕ = r .redzone in
+    let Q : ℕ = r .quarantine in
+    let v : ℕ = in-numbers (act-line (m .st) .answer) .value in
+    let heard-is : history (before ++ (x ∷ [])) ≡ done h (Release a) v =
+    heard-append nothing-yet before (x ∷ []) ∙ heard-done h x v is-done (m .value-is) ∙ ap (λ frame. done h frame v) asks-release in
+    ⊎-elim
+    (λ (f : Gone R Q h a x).
+    f .value-is ∙ ap (λ g. some (length (latest R Q (h .released)) + 1 - length (latest R Q (g .released)))) (sym heard-is))
+    (λ other.
+    absurd
+    (⊎-elim {C = ⊥}
+    (λ (f : Twice (h .live) (latest R Q (h .released)) a x). omega (arith, one-status (f .status-is) is-done))
+    (λ (f : Foreign (h .live) (latest R Q (h .released)) a x). omega (arith, one-status (f .status-is) is-done))
+    other))
+    (found-row m a asks-release above)

@@ -63,7 +63,7 @@ module _ {S R Q : ℕ} {shadow table : List ℕ} {h : History} (stands : Stands 
       })
 
   -- no live block is at address 0
-  none-at-zero : (x : Block) → x ∈ h .live → x .address ≢ 0
+  pub none-at-zero : (x : Block) → x ∈ h .live → x .address ≢ 0
   none-at-zero x m e =
       let row : (i : ℕ) × (i < rows table) × (state table i ≡ live) × (of-row table i ≡ x) = stands .standing .lives .row x m in
       let low : R ≤ start table (row .0) = stands .standing .laid .low (row .0) (record { below = row .1; has = inl (row .2) }) in

@@ -25,7 +25,7 @@ use Rattle.rules.specs.Feed.{no-bytes, lengthened}
 use Rattle.rules.proofs.Tests.{by-order, if-false, by-found}
 use Rattle.rules.proofs.Frames.{hex-digit-digit, no-line-feed, length-digits, number-digits, line-length, number-fits, frame-of-numbers, bad-kind, bad-first, bad-second}
 use Rattle.rules.proofs.Feed.{lengthened-short, lengthened-long}
-use Rattle.promises.specs.History.{lines-on, lines, status-of, value-of}
+use Rattle.promises.specs.History.{lines-on, lines, status-of, value-of, kind-of}
 
 -- ---- lines
 
@@ -88,6 +88,18 @@ status-answered line answer fits =
     (take-append-le 2 (s ++ k) v (omega (arith, length-append s k, length-digits 2 (in-numbers answer .status)))
     ∙ take-at s k 2 (length-digits 2 (in-numbers answer .status)))
     ∙ number-digits 2 (in-numbers answer .status) fits
+
+pub kind-answered : (line : List ℕ) (answer : Answer) → in-numbers answer .kind < 16 ^ 2
+    → kind-of (record { line = line; answer = answer-digits answer }) ≡ some (in-numbers answer .kind)
+unfolding kind-of
+kind-answered line answer fits =
+    let s : List ℕ = digits 2 (in-numbers answer .status) in
+    let k : List ℕ = digits 2 (in-numbers answer .kind) in
+    let v : List ℕ = digits 8 (in-numbers answer .value) in
+    ap (λ l. number (take 2 l))
+    (ap (drop 2) (append-assoc s k v) ∙ drop-at s (k ++ v) 2 (length-digits 2 (in-numbers answer .status)))
+    ∙ ap number (take-at k v 2 (length-digits 2 (in-numbers answer .kind)))
+    ∙ number-digits 2 (in-numbers answer .kind) fits
 
 pub value-answered : (line : List ℕ) (answer : Answer) → in-numbers answer .value < 16 ^ 8
     → value-of (record { line = line; answer = answer-digits answer }) ≡ some (in-numbers answer .value)

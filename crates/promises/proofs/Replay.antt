@@ -1,6 +1,6 @@
 -- The laws of a replay: what each byte keeps of a state and the history so far holds after a text, and at each of its lines; every line is
 -- answered; and what was in the buffers that were lent to an opening does not show. Assumes nothing.
-use Prim.Native.Nat.{ℕ, _/_, suc}
+use Prim.Native.Nat.{ℕ, _/_, suc, _^_, _<_}
 use native.Mathlib.Omega.{arith}
 use mathlib.Core.Path.{_≡_, refl, sym, ap, ap₂, subst, _∙_}
 use mathlib.Core.Logic.{_≢_}
@@ -18,10 +18,10 @@ use Rattle.rules.specs.Calls.{table-length, OpenedWith, open-with, fresh}
 use Rattle.rules.proofs.Tests.{by-test}
 use Rattle.rules.proofs.Feed.{step-line-feed, step-byte, by-first}
 use Rattle.rules.proofs.Calls.{Lent, LentState, step-lent, open-bad-shadow, open-bad-redzone, open-bad-table, opened-with, open-done, open-lent, state-of}
-use Rattle.promises.specs.History.{lines-on, lines, Exchange, paired, exchanges, asks, status-of, value-of, History, nothing-yet, heard, heard-all, history}
+use Rattle.promises.specs.History.{lines-on, lines, Exchange, paired, exchanges, asks, status-of, value-of, History, nothing-yet, heard, heard-all, history, kind-of}
 use Rattle.promises.specs.Replay.{Replay, opened, ran, log, Line, happened, SameReport, EveryLine}
 use Rattle.promises.proofs.History.{told, heard-told}
-use Rattle.promises.proofs.Lines.{lines-feed, lines-byte, answer-digits, lines-answer, status-answered, value-answered, Spells, spells-none, spells-more, spells-asks}
+use Rattle.promises.proofs.Lines.{lines-feed, lines-byte, answer-digits, lines-answer, status-answered, value-answered, Spells, spells-none, spells-more, spells-asks, kind-answered}
 use Rattle.promises.proofs.Digits.{value-fits, status-fits}
 
 -- ---- an opening
@@ -81,6 +81,7 @@ pub record Moment (P : State → History → Type 0) (h : History) (x : Exchange
   pub lent : LentState st
   pub asks-is : asks x ≡ asked st
   pub status-is : status-of x ≡ some (status (act-line st .answer))
+  pub kind-is : in-numbers (act-line st .answer) .kind < 16 ^ 2 → kind-of x ≡ some (in-numbers (act-line st .answer) .kind)
   pub value-is : value-of x ≡ some (in-numbers (act-line st .answer) .value)
 
 -- what the line's frame does is what the moment's line does
@@ -150,6 +151,7 @@ module _ (P : State → History → Type 0)
         lent = lent;
         asks-is = spells-asks spells;
         status-is = status-answered line answer (status-fits answer);
+        kind-is = kind-answered line answer;
         value-is = value-answered line answer (value-fits st lent);
       } in
       let hears : told h (asked st) answer ≡ heard h x =

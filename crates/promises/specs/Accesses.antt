@@ -1,5 +1,5 @@
 -- Demand 3, history: a read or write is reported exactly when it touches a byte in no block granted and not yet released.
-use Prim.Native.Nat.{ℕ, _+_, _*_, _≤_, _<_}
+use Prim.Native.Nat.{ℕ, _+_, _*_, _≤_, _<_, _%_}
 use mathlib.Core.Path.{_≡_}
 use mathlib.Core.Logic.{_≢_, _↔_, _⊎_}
 use mathlib.Core.Bool.{true, false}
@@ -9,9 +9,9 @@ use lib.ListN.{length}
 use Rattle.rules.specs.declared.Frame.the-variants.{Grant, Release, Read, Write}
 use Rattle.rules.specs.Limits.{granule}
 use Rattle.rules.specs.Grant.{counted}
-use Rattle.promises.specs.History.{Exchange, asks, status-of, value-of, Block, block, has-byte, lies-in, history, held}
+use Rattle.promises.specs.History.{Exchange, asks, status-of, value-of, Block, block, has-byte, lies-in, history, held, kind-of, latest}
 use Rattle.promises.specs.Replay.{Replay, Line, happened}
-use Rattle.promises.specs.Rows.{_∈_}
+use Rattle.promises.specs.Rows.{_∈_, past}
 
 -- the line reads or writes n bytes at a
 abbrev pub Touches : Exchange → ℕ → ℕ → Type 0
@@ -23,10 +23,11 @@ pub record Stray (blocks : List Block) (a n b : ℕ) : Type 0 where
   pub below : b < a + n
   pub nowhere : lies-in blocks b ≡ false
 
--- answered 09 exactly when one of its bytes lies in none of the blocks, and else 00
+-- answered 09 exactly when one of its bytes lies in none of the blocks, and else 00 with the value 0
 pub record ReportedBy (blocks : List Block) (a n : ℕ) (x : Exchange) : Type 0 where
   pub reported : (status-of x ≡ some 9) ↔ ((b : ℕ) × Stray blocks a n b)
   pub passed : (status-of x ≡ some 0) ↔ (((b : ℕ) × Stray blocks a n b) → ⊥)
+  pub passed-value : status-of x ≡ some 0 → value-of x ≡ some 0
 
 -- of every line, by the blocks granted and not yet released by the lines before
 abbrev pub Reported : Type 0
@@ -43,6 +44,20 @@ pub record First (blocks : List Block) (a n : ℕ) (x : Exchange) : Type 0 where
 abbrev pub FirstBadByte : Type 0
 FirstBadByte = (r : Replay) (before : List Exchange) (x : Exchange) → Line r before x → (a n : ℕ) → Touches x a n
     → status-of x ≡ some 9 → First (history before .live) a n x
+
+-- the kind of a bad byte, by where it lies: ff outside the arena, fd in the granules of a quarantined block, the bytes of a live block's last
+-- granule where it is past that block's last byte, and fa everywhere else
+pub record KindBy (S : ℕ) (live quarantine : List Block) (b k : ℕ) : Type 0 where
+  pub outside : granule * S ≤ b → k ≡ 0xff
+  pub released : (y : Block) → y ∈ quarantine → y .address ≤ b → b < past y → k ≡ 0xfd
+  pub past-the-end : (y : Block) → y ∈ live → y .address ≤ b → b < past y → k ≡ y .size % granule
+  pub elsewhere : b < granule * S → ((y : Block) → y ∈ live ++ quarantine → (b < y .address) ⊎ (past y ≤ b)) → k ≡ 0xfa
+
+abbrev pub Kinds : Type 0
+Kinds = (r : Replay) (before : List Exchange) (x : Exchange) → Line r before x → (a n : ℕ) → Touches x a n
+    → status-of x ≡ some 9 → (b : ℕ) → value-of x ≡ some b
+    → (k : ℕ) × (kind-of x ≡ some k)
+    × KindBy (length (r .shadow)) (history before .live) (latest (r .redzone) (r .quarantine) (history before .released)) b k
 
 -- bytes outside the arena lie in no block
 abbrev pub OutsideNowhere : Type 0

@@ -5,8 +5,8 @@ use Rattle.promises.specs.Replay.{EveryLine, SameReport}
 use Rattle.promises.specs.Total.{Total, RefusalsKeep}
 use Rattle.promises.specs.Published.{ShadowBytes, Verdicts, Places, Map32, Map64}
 use Rattle.promises.specs.Cutting.{Cutting, StopsEarly, GoesOn, Finishes, SoFar}
-use Rattle.promises.specs.Accesses.{Reported, FirstBadByte, OutsideNowhere, TwoBlocks, UntilGranted}
-use Rattle.promises.specs.Held.{Separation, Quarantine, NotAgain, Heavier, NeverEvicts, Placement, Releases}
+use Rattle.promises.specs.Accesses.{Reported, FirstBadByte, OutsideNowhere, Kinds, TwoBlocks, UntilGranted}
+use Rattle.promises.specs.Held.{Separation, Quarantine, NotAgain, Heavier, NeverEvicts, Evicted, Placement, Releases, ReleasesNothing}
 use Rattle.promises.specs.Shape.{Shape, RowsAreBlocks, Encoding}
 
 -- 1. Total: any input, an answer; a refusal changes nothing.
@@ -48,13 +48,18 @@ pub record Beyond : Type 0 where
   -- a block heavier than Q leaves at once; a grant never evicts
   pub heavier-leaves : Heavier
   pub a-grant-never-evicts : NeverEvicts
+  -- a release says how many left
+  pub evicted-count : Evicted
   -- the lowest place, 05 and 06 exactly; 07 and 08 exactly
   pub placement : Placement
   pub releases : Releases
+  pub address-0 : ReleasesNothing
   -- table and shadow
   pub shape : Shape
   pub rows-are-blocks : RowsAreBlocks
   pub encoding : Encoding
+  -- what the kind of a reported byte says
+  pub kinds : Kinds
   -- what a tester can quote
   pub two-blocks-reported : TwoBlocks
   pub reported-until-granted : UntilGranted

@@ -1,10 +1,10 @@
 -- Demand 3, held blocks: a redzone apart, the quarantine, where a grant goes, and when a release is refused.
-use Prim.Native.Nat.{ℕ, _-_, _*_, _/_, _≤_, _<_}
+use Prim.Native.Nat.{ℕ, _+_, _-_, _*_, _/_, _≤_, _<_}
 use mathlib.Core.Path.{_≡_}
 use mathlib.Core.Logic.{_≢_, _↔_}
 use mathlib.Core.Bool.{true, false}
 use mathlib.Core.Option.{some}
-use mathlib.Core.List.{List, _∷_, _++_}
+use mathlib.Core.List.{List, [], _∷_, _++_}
 use lib.ListN.{length, take, getElem?}
 use Rattle.rules.specs.declared.Frame.the-variants.{Grant, Release}
 use Rattle.rules.specs.Limits.{granule, row-numbers, empty, quarantined}
@@ -44,6 +44,14 @@ pub record Quarantine : Type 0 where
   pub longest : (R Q : ℕ) (released : List Block) → LongestRun R Q released (latest R Q released)
   pub only : (R Q : ℕ) (released first second : List Block) → LongestRun R Q released first → LongestRun R Q released second → first ≡ second
   pub quarantined : (r : Replay) → QuarantinedIn (ran r .state .table) (latest (r .redzone) (r .quarantine) (happened r .released))
+
+-- a release that is done is answered how many left by it: those that were quarantined and the one released, less those that are
+abbrev pub Evicted : Type 0
+Evicted = (r : Replay) (before : List Exchange) (x : Exchange) → Line r before x → (a : ℕ) → asks x ≡ Release a → a ≢ 0 → status-of x ≡ some 0
+    → value-of x
+    ≡ some
+    (length (latest (r .redzone) (r .quarantine) (history before .released)) + 1
+    - length (latest (r .redzone) (r .quarantine) (history (before ++ (x ∷ [])) .released)))
 
 -- no byte of a released block is granted again while it is in that run
 abbrev pub NotAgain : Type 0
@@ -89,3 +97,12 @@ pub record ReleasedBy (live quarantine : List Block) (a : ℕ) (x : Exchange) : 
 abbrev pub Releases : Type 0
 Releases = (r : Replay) (before : List Exchange) (x : Exchange) → Line r before x → (a : ℕ) → asks x ≡ Release a → a ≢ 0
     → ReleasedBy (history before .live) (latest (r .redzone) (r .quarantine) (history before .released)) a x
+
+-- address 0 is done and changes nothing
+pub record NothingBy (before : List Exchange) (x : Exchange) : Type 0 where
+  pub done : status-of x ≡ some 0
+  pub value : value-of x ≡ some 0
+  pub same : history (before ++ (x ∷ [])) ≡ history before
+
+abbrev pub ReleasesNothing : Type 0
+ReleasesNothing = (r : Replay) (before : List Exchange) (x : Exchange) → Line r before x → asks x ≡ Release 0 → NothingBy before x

@@ -44,6 +44,9 @@ asks x = frame-of-line (length (x .line)) (x .line)
 unfoldable pub status-of : Exchange → Option ℕ
 status-of x = number (take 2 (x .answer))
 
+unfoldable pub kind-of : Exchange → Option ℕ
+kind-of x = number (take 2 (drop 2 (x .answer)))
+
 unfoldable pub value-of : Exchange → Option ℕ
 value-of x = number (take 8 (drop 4 (x .answer)))
 

@@ -1,20 +1,40 @@
 -- The paper's night, seen by these definitions: what its sixteen lines and answers granted and released, the shadow that its rows draw,
--- and two chains of calls over its text. Each is computed.
-use Prim.Native.Nat.{ℕ, zero, suc}
+-- chains of calls over its text; and both sides of a limit. Each is computed.
+use Prim.Native.Nat.{ℕ, zero, suc, _+_, _*_}
 use mathlib.Core.Path.{_≡_, refl}
+use mathlib.Core.Bool.{true, false}
 use mathlib.Core.List.{List, [], _∷_}
 use lib.ListN.{drop, replicate}
+use Rattle.rules.specs.Limits.{granule}
 use Rattle.rules.specs.Night.{text, opened, trace, answers, shadow-after, table-after, state-after, by-the-rules}
-use Rattle.promises.specs.History.{block, lines-on, lines, paired, exchanges, asks, status-of, value-of, at, others, done, heard, heard-all, history, latest}
-use Rattle.promises.specs.Rows.{covers, painted, drawn-byte, drawn}
+use Rattle.promises.specs.History.{block, has-byte, lines-on, lines, paired, exchanges, asks, status-of, value-of, at, others, done, heard, heard-all, history, latest}
+use Rattle.promises.specs.Replay.{Replay, ran, log, happened}
+use Rattle.promises.specs.Replay
+use Rattle.promises.specs.Rows.{past, covers, painted, drawn-byte, drawn}
 use Rattle.promises.specs.Cutting.{Call, chain}
 
--- the block of 16 bytes at 10 is live; 8 bytes at 48, 1 at 30 and 13 at 10 were released, in that order backwards
+-- the block of 16 bytes at 10 is live; 8 bytes at 48, 1 at 30 and 13 at 10 were released, the latest first
 pub night-history :
     history (exchanges (text trace) (text answers))
     ≡ record { live = block 0x10 16 ∷ []; released = block 0x48 8 ∷ block 0x30 1 ∷ block 0x10 13 ∷ [] }
 unfolding by-the-rules lines-on lines paired exchanges asks status-of value-of at others done heard heard-all history
 night-history = refl
+
+-- the same as a replay, in buffers that were scribbled on before the opening
+abbrev pub the-night : Replay
+unfolding by-the-rules
+the-night = record {
+  shadow = replicate 16 7;
+  table = replicate 16 9;
+  redzone = 2;
+  quarantine = 16;
+  accepted = refl;
+  text = text trace;
+}
+
+pub night-happened : happened the-night ≡ record { live = block 0x10 16 ∷ []; released = block 0x48 8 ∷ block 0x30 1 ∷ block 0x10 13 ∷ [] }
+unfolding by-the-rules happened log ran Replay.opened lines-on lines paired exchanges asks status-of value-of at others done heard heard-all history
+night-happened = refl
 
 -- with Q = 16 the first of those has left
 pub night-quarantine : latest 2 16 (block 0x48 8 ∷ block 0x30 1 ∷ block 0x10 13 ∷ []) ≡ block 0x48 8 ∷ block 0x30 1 ∷ []
@@ -58,3 +78,37 @@ pub night-cut :
     ≡ record { ran = record { state = state-after; report = text answers }; left = [] }
 unfolding by-the-rules chain pairs
 night-cut = refl
+
+-- ---- both sides of a limit
+
+-- with 12 bytes of room a call takes a line up to its line feed, and the next one nothing
+pub twelve-bytes : chain (opened 16 2 16 4) (text trace) (replicate 3 (record { offered = 304; room = replicate 12 0 })) .left ≡ drop 18 (text trace)
+unfolding by-the-rules chain
+twelve-bytes = refl
+
+-- a block of 13 bytes at 10: its first and last byte, and those beside them
+pub block-bytes :
+    (has-byte (block 0x10 13) 0x0f ≡ false)
+    × (has-byte (block 0x10 13) 0x10 ≡ true)
+    × (has-byte (block 0x10 13) 0x1c ≡ true)
+    × (has-byte (block 0x10 13) 0x1d ≡ false)
+unfolding has-byte
+block-bytes = (refl, refl, refl, refl)
+
+-- with R = 2 a block of 1 byte at 10 and one at 28, where `rules` `Night.sizes` has its second, are just R granules apart
+pub just-apart : past (block 0x10 1) + granule * 2 ≡ 0x28
+unfolding by-the-rules past
+just-apart = refl
+
+-- releases of just Q bytes stay; of one byte more, the earlier one leaves
+pub run-of-q :
+    (latest 2 16 (block 0x48 8 ∷ block 0x30 8 ∷ []) ≡ block 0x48 8 ∷ block 0x30 8 ∷ [])
+    × (latest 2 16 (block 0x48 8 ∷ block 0x30 9 ∷ []) ≡ block 0x48 8 ∷ [])
+unfolding by-the-rules latest
+run-of-q = (refl, refl)
+
+-- a block of just Q bytes stays; one of a byte more leaves at once, and all before it have left
+pub block-of-q :
+    (latest 2 16 (block 0x30 16 ∷ block 0x10 1 ∷ []) ≡ block 0x30 16 ∷ []) × (latest 2 16 (block 0x30 17 ∷ block 0x10 1 ∷ []) ≡ [])
+unfolding by-the-rules latest
+block-of-q = (refl, refl)
