@@ -7,6 +7,8 @@ pub mod Cutting
 pub mod Accesses
 pub mod Held
 pub mod Shape
+-- that no more holds: a redzone of R + 1, a quarantine of Q + 1 ..
+pub mod Sharp
 -- from the bytes of a text and its report to the states in between
 pub mod Lines
 pub mod Digits

@@ -1,0 +1,168 @@
+-- That the promises are sharp: a redzone of R + 1, a quarantine of Q + 1, a block of just Q that leaves, released room that is never granted
+-- again, every access reported, none reported, a longer report and 12 bytes of room are each more than holds. A replay of a few lines
+-- shows it, by computing. Assumes nothing.
+use Prim.Native.Nat.{ℕ, _+_, _≤_, _<_}
+use Prim.Native.String.{String}
+use native.Mathlib.Omega.{arith}
+use mathlib.Core.Path.{_≡_, refl, ap, subst}
+use mathlib.Core.Logic.{inl, ⊎-elim}
+use mathlib.Core.Bool.{true, false, true≢false}
+use mathlib.Core.Option.{Option, some, Option·some-injective}
+use mathlib.Core.List.{List, [], _∷_, _++_, List·Memᴰ·head}
+use lib.ListN.{length, replicate}
+use Rattle.rules.specs.declared.Session.{Session}
+use Rattle.rules.specs.declared.Frame.the-variants.{Grant}
+use Rattle.rules.specs.Limits.{line-feed}
+use Rattle.rules.specs.Grant.{counted}
+use Rattle.rules.specs.Release.{in-quarantine, weight}
+use Rattle.rules.specs.Feed.{State, run}
+use Rattle.rules.specs.Calls.{fresh, fits-lent, feed}
+use Rattle.rules.specs.Night.{bytes, text, by-the-rules}
+use Rattle.promises.specs.History.{lines-on, lines, Exchange, paired, exchanges, asks, status-of, value-of, block, at, others, done, heard, heard-all, history, latest, Block, has-byte}
+use Rattle.promises.specs.Replay.{Replay, opened, ran, log, Line, happened}
+use Rattle.promises.specs.Rows.{past, _∈_}
+use Rattle.promises.specs.Cutting.{Call, chain}
+use Rattle.promises.specs.Accesses.{Touches}
+use Rattle.promises.specs.Held.{SeparatedIn, QuarantinedIn}
+
+-- a replay with S = 16, R = 2, Q = 16 and 4 rows
+abbrev replay : List ℕ → Replay
+unfolding by-the-rules
+replay lines = record { shadow = replicate 16 0; table = replicate 16 0; redzone = 2; quarantine = 16; accepted = refl; text = lines }
+
+-- a line and its answer
+abbrev exchange : String → String → Exchange
+exchange line answer = record { line = bytes line; answer = bytes answer }
+
+-- ---- R + 1
+
+-- two blocks of one byte, at granules 2 and 5
+abbrev neighbours : Replay
+neighbours = replay (text ("010000000100000000" ∷ "010000000100000000" ∷ []))
+
+abbrev neighbours-table : List ℕ
+neighbours-table = 2 ∷ 1 ∷ 1 ∷ 0 ∷ 5 ∷ 1 ∷ 1 ∷ 0 ∷ replicate 8 0
+
+neighbours-are : ran neighbours .state .table ≡ neighbours-table
+unfolding by-the-rules ran opened
+neighbours-are = refl
+
+pub redzone-sharp : ((r : Replay) → SeparatedIn (length (r .shadow)) (r .redzone + 1) (ran r .state .table)) → ⊥
+unfolding by-the-rules past
+redzone-sharp wider =
+    let separated : SeparatedIn 16 3 neighbours-table = subst (SeparatedIn 16 3) neighbours-are (wider neighbours) in
+    ⊎-elim {C = ⊥} (λ left. omega arith) (λ right. omega arith)
+    (separated .apart 0 1 (record { below = omega arith; has = inl refl }) (record { below = omega arith; has = inl refl }) (λ e. omega arith))
+
+-- ---- Q + 1
+
+-- 9 bytes are released, then 8: 17 together
+abbrev seventeen : Replay
+seventeen = replay (text ("010000000900000000" ∷ "010000000800000000" ∷ "020000001000000000" ∷ "020000003000000000" ∷ []))
+
+seventeen-left : in-quarantine (ran seventeen .state .table) ≡ 1
+unfolding by-the-rules ran opened
+seventeen-left = refl
+
+seventeen-run : latest 2 17 (happened seventeen .released) ≡ block 0x30 8 ∷ block 0x10 9 ∷ []
+unfolding by-the-rules happened log ran opened lines-on lines paired exchanges asks status-of value-of at others done heard heard-all history latest
+seventeen-run = refl
+
+pub quarantine-sharp : ((r : Replay) → QuarantinedIn (ran r .state .table) (latest (r .redzone) (r .quarantine + 1) (happened r .released))) → ⊥
+unfolding replay
+quarantine-sharp larger =
+    let count : in-quarantine (ran seventeen .state .table) ≡ length (latest 2 17 (happened seventeen .released)) = larger seventeen .count in
+    omega (arith, seventeen-left, ap length seventeen-run)
+
+-- a block of just Q is released, and stays
+abbrev sixteen : Replay
+sixteen = replay (text ("010000001000000000" ∷ "020000001000000000" ∷ []))
+
+sixteen-left : in-quarantine (ran sixteen .state .table) ≡ 1
+unfolding by-the-rules ran opened
+sixteen-left = refl
+
+sixteen-released : happened sixteen .released ≡ block 0x10 16 ∷ []
+unfolding by-the-rules happened log ran opened lines-on lines paired exchanges asks status-of value-of at others done heard heard-all history
+sixteen-released = refl
+
+pub heavier-sharp :
+    ((r : Replay) (y : Block) (earlier : List Block) → happened r .released ≡ y ∷ earlier → r .quarantine ≤ weight (r .redzone) (y .size)
+    → in-quarantine (ran r .state .table) ≡ 0) → ⊥
+unfolding by-the-rules replay
+heavier-sharp sooner = omega (arith, sooner sixteen (block 0x10 16) [] sixteen-released (omega arith), sixteen-left)
+
+-- ---- granted again
+
+-- a block of 17 bytes leaves the quarantine at once, and the next grant goes there
+abbrev again : Replay
+again = replay (text ("010000001100000000" ∷ "020000001000000000" ∷ "010000001100000000" ∷ []))
+
+abbrev grants-17 : Exchange
+grants-17 = exchange "010000001100000000" "000000000010"
+
+abbrev releases-17 : Exchange
+releases-17 = exchange "020000001000000000" "000000000001"
+
+again-is : log again ≡ grants-17 ∷ releases-17 ∷ grants-17 ∷ []
+unfolding by-the-rules log ran opened lines-on lines paired exchanges
+again-is = refl
+
+pub granted-again-sharp :
+    ((r : Replay) (before : List Exchange) (x : Exchange) → Line r before x → (s v : ℕ) → asks x ≡ Grant s → status-of x ≡ some 0 → value-of x ≡ some v
+    → (y : Block) → y ∈ history before .released → (b : ℕ) → has-byte (block v (counted s)) b ≡ true → has-byte y b ≡ false) → ⊥
+unfolding by-the-rules asks status-of value-of at others done heard heard-all history has-byte
+granted-again-sharp never =
+    let line : Line again (grants-17 ∷ releases-17 ∷ []) grants-17 = record { after = []; is = again-is } in
+    true≢false (never again (grants-17 ∷ releases-17 ∷ []) grants-17 line 17 0x10 refl refl refl (block 0x10 17) (List·Memᴰ·head refl) 0x10 refl)
+
+-- ---- good and bad
+
+-- a block of one byte at 10, a read of it, and a read of the byte after it
+abbrev two-reads : Replay
+two-reads = replay (text ("010000000100000000" ∷ "030000001000000001" ∷ "030000001100000001" ∷ []))
+
+abbrev granted-one : Exchange
+granted-one = exchange "010000000100000000" "000000000010"
+
+abbrev read-it : Exchange
+read-it = exchange "030000001000000001" "000000000000"
+
+abbrev read-after : Exchange
+read-after = exchange "030000001100000001" "090100000011"
+
+two-reads-are : log two-reads ≡ granted-one ∷ read-it ∷ read-after ∷ []
+unfolding by-the-rules log ran opened lines-on lines paired exchanges
+two-reads-are = refl
+
+-- neither is every access reported, nor is none
+pub reported-sharp : ((r : Replay) (before : List Exchange) (x : Exchange) → Line r before x → (a n : ℕ) → Touches x a n → status-of x ≡ some 9) → ⊥
+unfolding by-the-rules asks status-of
+reported-sharp always =
+    let line : Line two-reads (granted-one ∷ []) read-it = record { after = read-after ∷ []; is = two-reads-are } in
+    let says : _≡_ {A = Option ℕ} (some 0) (some 9) = always two-reads (granted-one ∷ []) read-it line 0x10 1 (inl refl) in
+    omega (arith, Option·some-injective 0 9 says)
+
+pub passed-sharp : ((r : Replay) (before : List Exchange) (x : Exchange) → Line r before x → (a n : ℕ) → Touches x a n → status-of x ≡ some 0) → ⊥
+unfolding by-the-rules asks status-of
+passed-sharp always =
+    let line : Line two-reads (granted-one ∷ read-it ∷ []) read-after = record { after = []; is = two-reads-are } in
+    let says : _≡_ {A = Option ℕ} (some 9) (some 0) = always two-reads (granted-one ∷ read-it ∷ []) read-after line 0x11 1 (inl refl) in
+    omega (arith, Option·some-injective 9 0 says)
+
+-- ---- a longer report, and 12 bytes of room
+
+pub cutting-sharp :
+    ((st : State) (left : List ℕ) (calls : List Call) → chain st left calls .left ≡ [] → chain st left calls .ran ≡ run st (left ++ (line-feed ∷ []))) → ⊥
+unfolding by-the-rules chain opened
+cutting-sharp longer =
+    let same : _≡_ {A = ℕ} 0 13 = ap (λ r. length (r .report)) (longer (opened neighbours) [] [] refl) in
+    omega arith
+
+pub room-sharp :
+    ((session : Session) (shadow table piece room : List ℕ) → fits-lent session shadow table ≡ true
+    → 0 < length piece → 12 ≤ length room → 0 < feed session shadow table piece room .given .taken) → ⊥
+unfolding by-the-rules
+room-sharp less =
+    let takes : 0 < 0 = less (fresh 16 4 2 16) (replicate 16 0xfa) (replicate 16 0) (line-feed ∷ []) (replicate 12 0) refl (omega arith) (omega arith) in
+    omega arith
