@@ -90,7 +90,7 @@ pub acted-on : {P : State → History → Type 0} {h : History} {x : Exchange} (
 unfolding act-line
 acted-on m frame e = ap (act (m .st .session) (m .st .shadow) (m .st .table)) (sym (m .asks-is) ∙ e)
 
--- two statuses are one
+-- what is read off an answer is one number
 pub one-status : {o : Option ℕ} {s t : ℕ} → o ≡ some s → o ≡ some t → s ≡ t
 one-status {s = s} {t = t} e f = Option·some-injective s t (sym e ∙ f)
 
