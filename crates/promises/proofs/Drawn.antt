@@ -142,27 +142,32 @@ module _ {S R : ℕ} {shadow table : List ℕ} (laid : Laid S R shadow table) wh
       let in-arena : k < S = omega (arith, laid .of-shadow) in
       drawn-at k in-arena ∙ ap (drawn-byte table) (let e : k ≡ 0 + k = omega arith in e) ∙ sym (getD-drawn table S 0 k in-arena))
 
-  -- each of its bytes is 0, a first k, or negative
-  pub byte-small : (g : ℕ) → g < length shadow → (getD shadow g 0 < granule) ⊎ (negative (getD shadow g 0) ≡ true)
-  byte-small g in-shadow =
-      by-granule table g ((getD shadow g 0 < granule) ⊎ (negative (getD shadow g 0) ≡ true))
+  -- each of its bytes is below 8, fd or fa
+  byte-is : (g : ℕ) → g < S → (getD shadow g 0 < granule) ⊎ ((getD shadow g 0 ≡ released-byte) ⊎ (getD shadow g 0 ≡ redzone-byte))
+  byte-is g in-arena =
+      by-granule table g ((getD shadow g 0 < granule) ⊎ ((getD shadow g 0 ≡ released-byte) ⊎ (getD shadow g 0 ≡ redzone-byte)))
       (λ i e o.
       ⊎-elim
       (λ is. inl (omega (arith, live-byte i g o is, granted-small (size table i) (g - start table i) (omega (arith, o .from, o .below)))))
-      (λ is. inr (negative-from (getD shadow g 0) (omega (arith, laid .of-quarantined i (o .held .below) is g (o .from) (o .below)))))
+      (λ is. inr (inl (laid .of-quarantined i (o .held .below) is g (o .from) (o .below))))
       (o .held .has))
-      (λ e off. inr (negative-from (getD shadow g 0) (omega (arith, laid .of-none g (omega (arith, laid .of-shadow)) off))))
+      (λ e off. inr (inr (laid .of-none g in-arena off)))
 
-  -- so it fits two digits
+  -- so it is 0, a first k, or negative
+  pub byte-small : (g : ℕ) → g < length shadow → (getD shadow g 0 < granule) ⊎ (negative (getD shadow g 0) ≡ true)
+  byte-small g in-shadow =
+      ⊎-elim (λ small. inl small)
+      (λ other.
+      inr
+      (negative-from (getD shadow g 0)
+      (⊎-elim {C = 128 ≤ getD shadow g 0} (λ is. omega arith) (λ is. omega arith) other)))
+      (byte-is g (omega (arith, laid .of-shadow)))
+
+  -- and fits two digits
   pub byte-fits : (g : ℕ) → g < S → getD shadow g 0 < 16 ^ 2
   byte-fits g in-arena =
-      by-granule table g (getD shadow g 0 < 16 ^ 2)
-      (λ i e o.
-      ⊎-elim
-      (λ is. omega (arith, live-byte i g o is, granted-small (size table i) (g - start table i) (omega (arith, o .from, o .below))))
-      (λ is. omega (arith, laid .of-quarantined i (o .held .below) is g (o .from) (o .below)))
-      (o .held .has))
-      (λ e off. omega (arith, laid .of-none g in-arena off))
+      ⊎-elim {C = getD shadow g 0 < 16 ^ 2} (λ small. omega arith) (λ other. ⊎-elim {C = getD shadow g 0 < 16 ^ 2} (λ is. omega arith) (λ is. omega arith) other)
+      (byte-is g in-arena)
 
   -- ---- addressable bytes
 
