@@ -1,6 +1,6 @@
 -- The invariant: what stands in shadow and table is what the history says. An opening has it, and every byte of a text keeps it; so it
 -- holds after every replay, and at the moment at which a line is answered. Assumes nothing.
-use Prim.Native.Nat.{ℕ, _+_, _*_, _/_, _≤_, _<_}
+use Prim.Native.Nat.{ℕ, _*_, _/_, _≤_, _<_}
 use native.Mathlib.Omega.{arith}
 use mathlib.Core.Path.{_≡_, refl, sym, ap, subst, _∙_}
 use mathlib.Core.Logic.{_≢_, inl, inr, ⊎-elim}
@@ -11,7 +11,7 @@ use Rattle.rules.specs.declared.Session.{Session}
 use Rattle.rules.specs.declared.Frame.{Frame}
 use Rattle.rules.specs.declared.Frame.the-variants.{Grant, Release, Read, Write, Refused}
 use Rattle.rules.specs.Limits.{granule, row-numbers, least-redzone, most-redzone, empty, live, quarantined, redzone-byte}
-use Rattle.rules.specs.Table.{rows, column, state, start, is-empty}
+use Rattle.rules.specs.Table.{rows, state, start, is-empty}
 use Rattle.rules.specs.Answers.{in-numbers, status}
 use Rattle.rules.specs.Grant.{Acted, counted, granules, grant-at, grant}
 use Rattle.rules.specs.Release.{Pool, quarantine-row, settle, release-row, release}
@@ -29,7 +29,7 @@ use Rattle.promises.specs.Rows.{_∈_, Held, of-row}
 use Rattle.promises.proofs.History.{told, told-same}
 use Rattle.promises.proofs.Replay.{asked, Moment, opened-lent, replay-has, moment, fresh-state, opened-is}
 use Rattle.promises.proofs.Blocks.{at-one, at-none, others-none}
-use Rattle.promises.proofs.Kept.{laid-opening, zeros-at}
+use Rattle.promises.proofs.Kept.{zero-column, laid-opening}
 use Rattle.promises.proofs.Standing.{in-use-none, live-none, Standing, standing-grant, standing-quarantine, standing-settle, in-use}
 use Rattle.promises.proofs.Latest.{latest-again}
 use Rattle.promises.proofs.Queue.{Queue, queue-none, queue-put, queue-quarantine, queue-settle, queue-row, queue-block}
@@ -195,9 +195,9 @@ HoldsOf r = Holds (length (r .shadow)) (length (r .table) / row-numbers) (r .red
 
 -- no row of an opening is held
 stands-opening : (S R Q n : ℕ) → 0 < R → Stands S R Q (replicate S redzone-byte) (replicate n 0) nothing-yet
-unfolding latest column
+unfolding latest
 stands-opening S R Q n above =
-    let state-zero : (i : ℕ) → state (replicate n 0) i ≡ 0 = λ i. zeros-at n (row-numbers * i + 2) in
+    let state-zero : (i : ℕ) → state (replicate n 0) i ≡ empty = zero-column n 2 in
     let none-live : (i : ℕ) → i < rows (replicate n 0) → state (replicate n 0) i ≢ live = λ i below e. absurd (omega (arith, state-zero i)) in
     let none-quarantined : (i : ℕ) → i < rows (replicate n 0) → state (replicate n 0) i ≢ quarantined = λ i below e. absurd (omega (arith, state-zero i)) in
     let queue : Queue R (replicate n 0) [] = queue-none R (replicate n 0) none-quarantined in

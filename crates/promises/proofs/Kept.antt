@@ -6,7 +6,7 @@ use mathlib.Core.Path.{_≡_, refl, sym, ap, ap₂, subst, _∙_}
 use mathlib.Core.Logic.{_≢_, _⊎_, inl, inr, ⊎-elim}
 use mathlib.Core.List.{List, [], _∷_}
 use lib.ListN.{length, getD, replicate, length-replicate, getD-replicate}
-use Rattle.rules.specs.Limits.{granule, redzone-byte, released-byte, empty, live, quarantined}
+use Rattle.rules.specs.Limits.{granule, row-numbers, redzone-byte, released-byte, empty, live, quarantined}
 use Rattle.rules.specs.Put.{put}
 use Rattle.rules.specs.Table.{rows, column, start, size, state, put-row}
 use Rattle.rules.specs.Grant.{granules, granted}
@@ -21,35 +21,35 @@ use Rattle.promises.proofs.Laid.{ends, Off, Laid, laid-repainted}
 
 -- ---- an opening
 
--- every number of a table of zeros is 0
-pub zeros-at : (m k : ℕ) → getD {A = ℕ} (replicate m 0) k 0 ≡ 0
+zeros-at : (m k : ℕ) → getD {A = ℕ} (replicate m 0) k 0 ≡ 0
 zeros-at zero k = refl
 zeros-at (suc m) zero = refl
 zeros-at (suc m) (suc k) = zeros-at m k
 
+-- every number of a table of zeros is 0
+pub zero-column : (n k i : ℕ) → column k (replicate n 0) i ≡ 0
+unfolding column
+zero-column n k i = zeros-at n (row-numbers * i + k)
+
 -- a table of zeros and a shadow of fa are laid
 pub laid-opening : (S R n : ℕ) → Laid S R (replicate S redzone-byte) (replicate n 0)
-unfolding column
 laid-opening S R n =
-    let zero-at : (k : ℕ) → getD {A = ℕ} (replicate n 0) k 0 ≡ 0 = zeros-at n in
-    let nothing : (i : ℕ) → Held (replicate n 0) i → ⊥ = λ i h. none-held i (zero-at (4 * i + 2)) (h .has) in
+    let is-empty : (i : ℕ) → state (replicate n 0) i ≡ empty = zero-column n 2 in
+    let nothing : (i : ℕ) → Held (replicate n 0) i → ⊥ =
+    λ i h. ⊎-elim {C = ⊥} (λ is. omega (arith, is-empty i)) (λ is. omega (arith, is-empty i)) (h .has) in
     record {
       of-shadow = length-replicate S redzone-byte;
-      states = λ i below. inl (zero-at (4 * i + 2));
-      zeros = λ i below is. (zero-at (4 * i + 0), zero-at (4 * i + 1), zero-at (4 * i + 3));
-      live-turn = λ i below is. zero-at (4 * i + 3);
+      states = λ i below. inl (is-empty i);
+      zeros = λ i below is. (zero-column n 0 i, zero-column n 1 i, zero-column n 3 i);
+      live-turn = λ i below is. zero-column n 3 i;
       sized = λ i h. absurd (nothing i h);
       low = λ i h. absurd (nothing i h);
       high = λ i h. absurd (nothing i h);
       apart = λ i j h. absurd (nothing i h);
-      of-live = λ i below is. absurd (omega (arith, zero-at (4 * i + 2)));
-      of-quarantined = λ i below is. absurd (omega (arith, zero-at (4 * i + 2)));
+      of-live = λ i below is. absurd (omega (arith, is-empty i));
+      of-quarantined = λ i below is. absurd (omega (arith, is-empty i));
       of-none = λ g in-arena off. getD-replicate S g redzone-byte 0 in-arena;
     }
-  where
-    none-held : {v : ℕ} (i : ℕ) → v ≡ 0 → (v ≡ live) ⊎ (v ≡ quarantined) → ⊥
-    none-held i e (inl is) = omega arith
-    none-held i e (inr is) = omega arith
 
 -- ---- what stands in a block's granules
 
@@ -103,7 +103,7 @@ module _ {S R : ℕ} {shadow table : List ℕ} (laid : Laid S R shadow table) wh
     not-held : Held table i → ⊥
     not-held h = ⊎-elim {C = ⊥} (λ is. omega arith) (λ is. omega arith) (h .has)
 
-    own : (k : ℕ) → k < 4 → column k (put-row table i p s live 0) i ≡ getD (p ∷ s ∷ live ∷ 0 ∷ []) k 0
+    own : (k : ℕ) → k < row-numbers → column k (put-row table i p s live 0) i ≡ getD (p ∷ s ∷ live ∷ 0 ∷ []) k 0
     own k in-row = column-put-row table i p s live 0 below k in-row
 
     inside : p + length (granted s) ≤ length shadow
@@ -159,7 +159,7 @@ module _ {S R : ℕ} (pool : Pool) (laid : Laid S R (pool .shadow) (pool .table)
   pub laid-quarantine : Laid S R (quarantine-row pool i .shadow) (quarantine-row pool i .table)
   unfolding quarantine-row
   laid-quarantine =
-      let own : (k : ℕ) → k < 4 → column k (quarantine-row pool i .table) i ≡ getD (start (pool .table) i ∷ size (pool .table) i ∷ quarantined ∷ (in-quarantine (pool .table) + 1) ∷ []) k 0 =
+      let own : (k : ℕ) → k < row-numbers → column k (quarantine-row pool i .table) i ≡ getD (start (pool .table) i ∷ size (pool .table) i ∷ quarantined ∷ (in-quarantine (pool .table) + 1) ∷ []) k 0 =
       quarantine-row-own pool i (h .below) in
       laid-repainted {lo = start (pool .table) i} {hi = ends (pool .table) i} laid
       (record {
