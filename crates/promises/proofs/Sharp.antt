@@ -83,13 +83,13 @@ unfolding by-the-rules ran opened
 sixteen-left = refl
 
 sixteen-released : happened sixteen .released ≡ block 0x10 16 ∷ []
-unfolding by-the-rules happened log ran opened lines-on lines paired exchanges asks status-of value-of at others done heard heard-all history
+unfolding by-the-rules happened log ran opened lines-on lines paired exchanges asks status-of value-of at done heard heard-all history
 sixteen-released = refl
 
 pub heavier-sharp :
     ((r : Replay) (y : Block) (earlier : List Block) → happened r .released ≡ y ∷ earlier → r .quarantine ≤ weight (r .redzone) (y .size)
     → in-quarantine (ran r .state .table) ≡ 0) → ⊥
-unfolding by-the-rules replay
+unfolding replay
 heavier-sharp sooner = omega (arith, sooner sixteen (block 0x10 16) [] sixteen-released (omega arith), sixteen-left)
 
 -- ---- granted again
@@ -111,7 +111,7 @@ again-is = refl
 pub granted-again-sharp :
     ((r : Replay) (before : List Exchange) (x : Exchange) → Line r before x → (s v : ℕ) → asks x ≡ Grant s → status-of x ≡ some 0 → value-of x ≡ some v
     → (y : Block) → y ∈ history before .released → (b : ℕ) → has-byte (block v (counted s)) b ≡ true → has-byte y b ≡ false) → ⊥
-unfolding by-the-rules asks status-of value-of at others done heard heard-all history has-byte
+unfolding by-the-rules asks status-of value-of at done heard heard-all history has-byte
 granted-again-sharp never =
     let line : Line again (grants-17 ∷ releases-17 ∷ []) grants-17 = record { after = []; is = again-is } in
     true≢false (never again (grants-17 ∷ releases-17 ∷ []) grants-17 line 17 0x10 refl refl refl (block 0x10 17) (List·Memᴰ·head refl) 0x10 refl)
@@ -154,7 +154,7 @@ passed-sharp always =
 
 pub cutting-sharp :
     ((st : State) (left : List ℕ) (calls : List Call) → chain st left calls .left ≡ [] → chain st left calls .ran ≡ run st (left ++ (line-feed ∷ []))) → ⊥
-unfolding by-the-rules chain opened
+unfolding by-the-rules chain
 cutting-sharp longer =
     let same : _≡_ {A = ℕ} 0 13 = ap (λ r. length (r .report)) (longer (opened neighbours) [] [] refl) in
     omega arith
