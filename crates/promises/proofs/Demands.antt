@@ -7,6 +7,7 @@ use Rattle.promises.proofs.Cutting.{cutting, stops-early, goes-on, fini
 use Rattle.promises.proofs.Accesses.{reported, first-bad-byte, outside-nowhere, kinds, two-blocks, until-granted}
 use Rattle.promises.proofs.Held.{separation, quarantine, not-again, heavier, never-evicts, evicted, placement, releases, releases-nothing}
 use Rattle.promises.proofs.Shape.{shape, rows-are-blocks, encoding}
+use Rattle.promises.proofs.Direct.{direct-calls}
 
 pub demand-1 : Demand1
 demand-1 = record { any-input-an-answer = total; a-refusal-changes-nothing = refusals-keep }
@@ -47,6 +48,7 @@ beyond = record {
   rows-are-blocks = rows-are-blocks;
   encoding = encoding;
   kinds = kinds;
+  direct-calls = direct-calls;
   two-blocks-reported = two-blocks;
   reported-until-granted = until-granted;
   answers-so-far = so-far;

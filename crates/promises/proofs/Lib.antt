@@ -7,6 +7,7 @@ pub mod Cutting
 pub mod Accesses
 pub mod Held
 pub mod Shape
+pub mod Direct
 -- that no more holds: a redzone of R + 1, a quarantine of Q + 1 ..
 pub mod Sharp
 -- from the bytes of a text and its report to the states in between

@@ -40,7 +40,7 @@ unfolding lines-on
 lines-byte line b text other = if-false _ _ (ne-eqb b line-feed other)
 
 -- a hex digit is no line feed
-digit-no-feed : (d : ℕ) → d < 16 → digit d ≢ line-feed
+pub digit-no-feed : (d : ℕ) → d < 16 → digit d ≢ line-feed
 digit-no-feed d below e = Option·none-ne-some d (sym (ap hex-digit e ∙ no-line-feed) ∙ hex-digit-digit d below)
 
 -- so digits lengthen a line

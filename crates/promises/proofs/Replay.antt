@@ -122,10 +122,10 @@ goes-on P h y log last first goes = record { after = goes .after; at = at }
 -- ---- a text
 
 -- by its first byte: a line feed finishes the line, any other is held
-run-feed : (st : State) (text : List ℕ) → run st (line-feed ∷ text) ≡ after (finish st .report) (run (finish st .state) text)
+pub run-feed : (st : State) (text : List ℕ) → run st (line-feed ∷ text) ≡ after (finish st .report) (run (finish st .state) text)
 run-feed st text = run-cons st line-feed text ∙ ap (λ ran. after (ran .report) (run (ran .state) text)) (step-line-feed st)
 
-run-byte : (st : State) (b : ℕ) (text : List ℕ) → b ≢ line-feed → run st (b ∷ text) ≡ after (hold st b .report) (run (hold st b .state) text)
+pub run-byte : (st : State) (b : ℕ) (text : List ℕ) → b ≢ line-feed → run st (b ∷ text) ≡ after (hold st b .report) (run (hold st b .state) text)
 run-byte st b text other = run-cons st b text ∙ ap (λ ran. after (ran .report) (run (ran .state) text)) (step-byte st b other)
 
 module _ (P : State → History → Type 0)

@@ -8,6 +8,7 @@ use Rattle.promises.specs.Cutting.{Cutting, StopsEarly, GoesOn, Finishes
 use Rattle.promises.specs.Accesses.{Reported, FirstBadByte, OutsideNowhere, Kinds, TwoBlocks, UntilGranted}
 use Rattle.promises.specs.Held.{Separation, Quarantine, NotAgain, Heavier, NeverEvicts, Evicted, Placement, Releases, ReleasesNothing}
 use Rattle.promises.specs.Shape.{Shape, RowsAreBlocks, Encoding}
+use Rattle.promises.specs.Direct.{DirectCalls}
 
 -- 1. Total: any input, an answer; a refusal changes nothing.
 pub record Demand1 : Type 0 where
@@ -60,6 +61,8 @@ pub record Beyond : Type 0 where
   pub encoding : Encoding
   -- what the kind of a reported byte says
   pub kinds : Kinds
+  -- a direct call is the line of its frame
+  pub direct-calls : DirectCalls
   -- what a tester can quote
   pub two-blocks-reported : TwoBlocks
   pub reported-until-granted : UntilGranted

@@ -7,6 +7,7 @@ pub mod Cutting
 pub mod Accesses
 pub mod Held
 pub mod Shape
+pub mod Direct
 -- what they speak of: what lines and answers granted and released, a text from an opening, and the rows and the shadow that they draw
 pub mod History
 pub mod Replay

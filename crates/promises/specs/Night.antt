@@ -5,13 +5,14 @@ use mathlib.Core.Path.{_≡_, refl}
 use mathlib.Core.Bool.{true, false}
 use mathlib.Core.List.{List, [], _∷_}
 use lib.ListN.{drop, replicate}
-use Rattle.rules.specs.Limits.{granule}
+use Rattle.rules.specs.Limits.{granule, kind-grant}
 use Rattle.rules.specs.Night.{text, opened, trace, answers, shadow-after, table-after, state-after, by-the-rules}
 use Rattle.promises.specs.History.{block, has-byte, lines-on, lines, paired, exchanges, asks, status-of, value-of, at, others, done, heard, heard-all, history, latest}
 use Rattle.promises.specs.Replay.{Replay, ran, log, happened}
 use Rattle.promises.specs.Replay
 use Rattle.promises.specs.Rows.{past, covers, painted, drawn-byte, drawn}
 use Rattle.promises.specs.Cutting.{Call, chain}
+use Rattle.promises.specs.Direct.{line-of}
 
 -- the block of 16 bytes at 10 is live; 8 bytes at 48, 1 at 30 and 13 at 10 were released, the latest first
 pub night-history :
@@ -78,6 +79,11 @@ pub night-cut :
     ≡ record { ran = record { state = state-after; report = text answers }; left = [] }
 unfolding by-the-rules chain pairs
 night-cut = refl
+
+-- the night's first line, as the line of a direct grant of 13 bytes
+pub direct-line : line-of kind-grant 13 0 ≡ text ("010000000d00000000" ∷ [])
+unfolding by-the-rules line-of
+direct-line = refl
 
 -- ---- both sides of a limit
 
