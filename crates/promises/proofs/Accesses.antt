@@ -1,4 +1,4 @@
--- Reads and writes from an opening: reported exactly when a byte lies in no live block of the history, with the least such byte; and
+-- Reads and writes from an opening: reported exactly when a byte lies in no live block of the history, with the least such byte and its kind; and
 -- what follows of two blocks and of a released one. Assumes nothing.
 use Prim.Native.Nat.{ℕ, _+_, _-_, _*_, _≤_, _<_, _^_, _/_, _%_}
 use native.Mathlib.Decide.{ℕ-discrete}
@@ -24,7 +24,7 @@ use Rattle.rules.proofs.Grant.{granules-enough, granules-least, granted-last}
 use Rattle.rules.proofs.Refusals.{access-good, access-bad}
 use Rattle.promises.specs.History.{held, Exchange, asks, status-of, Block, block, has-byte, lies-in, others, History, nothing-yet, done, heard, heard-all, history, value-of, kind-of, latest}
 use Rattle.promises.specs.Replay.{Replay, Line, ran, happened}
-use Rattle.promises.specs.Rows.{_∈_, Held, of-row, past}
+use Rattle.promises.specs.Rows.{_∈_, Held, of-row, past, RowOf}
 use Rattle.promises.specs.Accesses.{Touches, Stray, Reported, First, FirstBadByte, TwoBlocks, Grants, UntilGranted, OutsideNowhere, KindBy, Kinds}
 use Rattle.promises.proofs.History.{heard-done, by-heard, heard-append}
 use Rattle.promises.proofs.Replay.{Moment, acted-on, one-status}
@@ -61,7 +61,7 @@ module _ {S R Q : ℕ} {shadow table : List ℕ} {h : History} (stands : Stands 
       record {
         outside = λ beyond. kind-outside shadow b (omega arith);
         released = λ y m from below.
-            let row : (i : ℕ) × (i < rows table) × (state table i ≡ quarantined) × (of-row table i ≡ y) =
+            let row : RowOf table quarantined y =
             queue-row R table (latest R Q (h .released)) (stands .queue) y m in
             let first : granule * start table (row .0) ≡ y .address = ap (λ w. w .address) (row .3) in
             let size-is : size table (row .0) ≡ y .size = ap (λ w. w .size) (row .3) in
@@ -69,7 +69,7 @@ module _ {S R Q : ℕ} {shadow table : List ℕ} {h : History} (stands : Stands 
             let high : ends table (row .0) + R ≤ S = laid .high (row .0) (record { below = row .1; has = inr (row .2) }) in
             kind-inside shadow b (omega arith) ∙ laid .of-quarantined (row .0) (row .1) (row .2) (b / granule) (omega arith) (omega arith);
         past-the-end = λ y m from below.
-            let row : (i : ℕ) × (i < rows table) × (state table i ≡ live) × (of-row table i ≡ y) = stands .standing .lives .row y m in
+            let row : RowOf table live y = stands .standing .lives .row y m in
             let first : granule * start table (row .0) ≡ y .address = ap (λ w. w .address) (row .3) in
             let size-is : size table (row .0) ≡ y .size = ap (λ w. w .size) (row .3) in
             let granules-are : granules (size table (row .0)) ≡ granules (y .size) = ap granules size-is in
@@ -208,7 +208,7 @@ module _ {S R Q : ℕ} {shadow table : List ℕ} {h : History} (stands : Stands 
   quarantined-stray i below is b has =
       lies-in-not (h .live) b
       (λ x m has-x.
-      let row : (j : ℕ) × (j < rows table) × (state table j ≡ live) × (of-row table j ≡ x) = stands .standing .lives .row x m in
+      let row : RowOf table live x = stands .standing .lives .row x m in
       let range : (granule * start table i ≤ b) × (b < granule * start table i + size table i) = has-byte-true (of-row table i) b has in
       one-row i (row .0) (record { below = below; has = inr is }) (record { below = row .1; has = inl (row .2) })
       (λ e. absurd (omega (arith, row .2, ap (state table) e))) b (range .0) (omega (arith, range .1, granules-enough (size table i)))
@@ -221,7 +221,7 @@ module _ {S R Q : ℕ} {shadow table : List ℕ} {h : History} (stands : Stands 
       let b : ℕ = granule * start table i + size table i in
       lies-in-not (h .live) b
       (λ x m has-x.
-      let row : (j : ℕ) × (j < rows table) × (state table j ≡ live) × (of-row table j ≡ x) = stands .standing .lives .row x m in
+      let row : RowOf table live x = stands .standing .lives .row x m in
       let range : (granule * start table (row .0) ≤ b) × (b < granule * start table (row .0) + size table (row .0)) =
       has-byte-true (of-row table (row .0)) b (ap (λ y. has-byte y b) (row .3) ∙ has-x) in
       elim (ℕ-discrete i (row .0)) [
@@ -311,13 +311,13 @@ module _ (b : ℕ) where
 others-stray : {S R Q : ℕ} {shadow table : List ℕ} {h : History} → Stands S R Q shadow table h
     → (y : Block) → y ∈ h .live → (b : ℕ) → has-byte y b ≡ true → lies-in (others (y .address) (h .live)) b ≡ false
 others-stray {table = table} {h = h} stands y in-y b has-b =
-    let row : (i : ℕ) × (i < rows table) × (state table i ≡ live) × (of-row table i ≡ y) = stands .standing .lives .row y in-y in
+    let row : RowOf table live y = stands .standing .lives .row y in-y in
     let range : (granule * start table (row .0) ≤ b) × (b < granule * start table (row .0) + size table (row .0)) =
     has-byte-true (of-row table (row .0)) b (ap (λ w. has-byte w b) (row .3) ∙ has-b) in
     lies-in-not (others (y .address) (h .live)) b
     (λ z in-z has-z.
     let other : (z ∈ h .live) × (z .address ≢ y .address) = others-of (y .address) (h .live) z in-z in
-    let row′ : (j : ℕ) × (j < rows table) × (state table j ≡ live) × (of-row table j ≡ z) = stands .standing .lives .row z (other .0) in
+    let row′ : RowOf table live z = stands .standing .lives .row z (other .0) in
     one-row stands (row .0) (row′ .0) (record { below = row .1; has = inl (row .2) }) (record { below = row′ .1; has = inl (row′ .2) })
     (λ e. other .1 (ap (λ w. w .address) (sym (row′ .3)) ∙ ap (λ k. granule * start table k) (sym e) ∙ ap (λ w. w .address) (row .3))) b
     (range .0) (omega (arith, range .1, granules-enough (size table (row .0))))

@@ -22,7 +22,7 @@ use Rattle.rules.proofs.Lowest.{Lowest, lowest-some, lowest-none, below-all}
 use Rattle.rules.proofs.Shadow.{leading-all, leading-first, leading-none, negative-from, addressable-is, not-inside, not-leading}
 use Rattle.rules.proofs.Grant.{granules-enough, granules-least, granted-whole, granted-last}
 use Rattle.promises.specs.History.{Block, lies-in, has-byte}
-use Rattle.promises.specs.Rows.{_∈_, Held, of-row, covers, painted, drawn-byte, drawn}
+use Rattle.promises.specs.Rows.{_∈_, Held, of-row, covers, painted, drawn-byte, drawn, RowOf}
 use Rattle.promises.proofs.Blocks.{has-byte-true, has-byte-is, lies-in-true, lies-in-is}
 use Rattle.promises.proofs.Laid.{ends, Off, Laid}
 use Rattle.promises.proofs.Kept.{granted-small}
@@ -208,7 +208,7 @@ module _ {S R : ℕ} {shadow table : List ℕ} (laid : Laid S R shadow table) wh
       → (j : ℕ) × Over table (b / granule) j × (state table j ≡ live) × (b < granule * start table j + size table j)
   lies-row blocks lives b e =
       let one : (x : Block) × (x ∈ blocks) × (has-byte x b ≡ true) = lies-in-true blocks b e in
-      let row : (j : ℕ) × (j < rows table) × (state table j ≡ live) × (of-row table j ≡ one .0) = lives .row (one .0) (one .1) in
+      let row : RowOf table live (one .0) = lives .row (one .0) (one .1) in
       let has : has-byte (of-row table (row .0)) b ≡ true = ap (λ y. has-byte y b) (row .3) ∙ one .2 in
       let range : (granule * start table (row .0) ≤ b) × (b < granule * start table (row .0) + size table (row .0)) =
       has-byte-true (of-row table (row .0)) b has in (

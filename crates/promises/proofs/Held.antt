@@ -22,7 +22,7 @@ use Rattle.rules.proofs.Lowest.{Lowest, below-all}
 use Rattle.rules.proofs.Grant.{counted-least, granules-above, Fits, Place, place-some, place-none, empty-row-some, empty-row-none, by-grant, granules-enough, grant-keeps}
 use Rattle.rules.proofs.Release.{StartsAt, row-at-some, row-at-none, by-release, settle-count, release-nothing}
 use Rattle.promises.specs.History.{Exchange, asks, status-of, value-of, Block, block, has-byte, History, history, latest, held, weigh, at, nothing-yet, done, heard-all}
-use Rattle.promises.specs.Rows.{_∈_, past, Apart, Free, Starts, Held, of-row}
+use Rattle.promises.specs.Rows.{_∈_, past, Apart, Free, Starts, Held, of-row, RowOf}
 use Rattle.promises.specs.Held.{NotAgain, PlacedBy, Placement, ReleasedBy, Releases, SeparatedIn, Separation, Quarantine, Heavier, LongestRun, NeverEvicts, Evicted, ReleasesNothing}
 use Rattle.promises.proofs.History.{heard-append, heard-done}
 use Rattle.promises.proofs.Replay.{Moment, acted-on, one-status}
@@ -295,13 +295,13 @@ module _ {S n R Q : ℕ} {h : History} {x : Exchange} (m : Moment (Holds S n R Q
   -- no block starts where no row does
   none-live : row-at live (m .st .table) a ≡ none → Starts (h .live) a → ⊥
   none-live e s =
-      let row : (i : ℕ) × (i < rows (m .st .table)) × (state (m .st .table) i ≡ live) × (of-row (m .st .table) i ≡ s .0) =
+      let row : RowOf (m .st .table) live (s .0) =
       m .holds .stands .standing .lives .row (s .0) (s .1) in
       row-at-none live (m .st .table) a e (row .0) (row .1) (row .2) (ap (λ y. y .address) (row .3) ∙ s .2)
 
   none-quarantined : row-at quarantined (m .st .table) a ≡ none → Starts (latest R Q (h .released)) a → ⊥
   none-quarantined e s =
-      let row : (i : ℕ) × (i < rows (m .st .table)) × (state (m .st .table) i ≡ quarantined) × (of-row (m .st .table) i ≡ s .0) =
+      let row : RowOf (m .st .table) quarantined (s .0) =
       queue-row R (m .st .table) (latest R Q (h .released)) (m .holds .stands .queue) (s .0) (s .1) in
       row-at-none quarantined (m .st .table) a e (row .0) (row .1) (row .2) (ap (λ y. y .address) (row .3) ∙ s .2)
 

@@ -25,7 +25,7 @@ use Rattle.rules.proofs.Feed.{SameNumbers, lengthened-numbers, act-lengths}
 use Rattle.rules.proofs.Calls.{LentState}
 use Rattle.promises.specs.History.{Exchange, Block, at, History, nothing-yet, done, history, latest, held}
 use Rattle.promises.specs.Replay.{Replay, opened, ran, Line, happened}
-use Rattle.promises.specs.Rows.{_∈_, Held, of-row}
+use Rattle.promises.specs.Rows.{_∈_, Held, of-row, RowOf}
 use Rattle.promises.proofs.History.{told, told-same}
 use Rattle.promises.proofs.Replay.{asked, Moment, opened-lent, replay-has, moment, fresh-state, opened-is}
 use Rattle.promises.proofs.Blocks.{at-one, at-none, others-none}
@@ -65,7 +65,7 @@ module _ {S R Q : ℕ} {shadow table : List ℕ} {h : History} (stands : Stands 
   -- no live block is at address 0
   pub none-at-zero : (x : Block) → x ∈ h .live → x .address ≢ 0
   none-at-zero x m e =
-      let row : (i : ℕ) × (i < rows table) × (state table i ≡ live) × (of-row table i ≡ x) = stands .standing .lives .row x m in
+      let row : RowOf table live x = stands .standing .lives .row x m in
       let low : R ≤ start table (row .0) = stands .standing .laid .low (row .0) (record { below = row .1; has = inl (row .2) }) in
       let at-zero : granule * start table (row .0) ≡ 0 = ap (λ y. y .address) (row .3) ∙ e in
       omega (arith, stands .above)
@@ -126,10 +126,10 @@ module _ {S R Q : ℕ} {shadow table : List ℕ} {h : History} (stands : Stands 
   held-row y m =
       ⊎-elim
       (λ in-live.
-      let row : (i : ℕ) × (i < rows table) × (state table i ≡ live) × (of-row table i ≡ y) = stands .standing .lives .row y in-live in
+      let row : RowOf table live y = stands .standing .lives .row y in-live in
       (row .0, record { below = row .1; has = inl (row .2) }, row .3))
       (λ in-quarantine.
-      let row : (i : ℕ) × (i < rows table) × (state table i ≡ quarantined) × (of-row table i ≡ y) =
+      let row : RowOf table quarantined y =
       queue-row R table (latest R Q (h .released)) (stands .queue) y in-quarantine in
       (row .0, record { below = row .1; has = inr (row .2) }, row .3))
       (List·Memᴰ·append-cases (h .live) m)

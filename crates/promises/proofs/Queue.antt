@@ -20,7 +20,7 @@ use Rattle.rules.proofs.Lowest.{total-same, total-most}
 use Rattle.rules.proofs.Table.{rows-same, length-put-row, column-put-row, column-put-row-other}
 use Rattle.rules.proofs.Release.{Oldest, oldest-some, some-oldest, if-quarantined-no, if-quarantined-same, evict-row-rows, evict-row-empty, evict-row-other, evict-row-turn, evict-row-count, evict-row-weights, evict-oldest-is, settle-done, settle-more, by-evictions, quarantine-row-lengths, quarantine-row-own, quarantine-row-other, quarantine-row-sum, quarantine-row-weights}
 use Rattle.promises.specs.History.{Block, weigh, latest}
-use Rattle.promises.specs.Rows.{_∈_, of-row}
+use Rattle.promises.specs.Rows.{_∈_, of-row, RowOf}
 use Rattle.promises.proofs.Laid.{of-row-same}
 use Rattle.promises.proofs.Latest.{weigh-nil, weigh-cons, weigh-append, latest-all, latest-last, place-before, place-last, place-in, in-place}
 
@@ -322,7 +322,7 @@ queue-settle R Q =
 
 -- each of the blocks is that of a quarantined row
 pub queue-row : (R : ℕ) (table : List ℕ) (blocks : List Block) → Queue R table blocks → (y : Block) → y ∈ blocks
-    → (i : ℕ) × (i < rows table) × (state table i ≡ quarantined) × (of-row table i ≡ y)
+    → RowOf table quarantined y
 queue-row R table blocks q y m =
     let at : (k : ℕ) × (k < length blocks) × (getElem? blocks k ≡ some y) = in-place blocks y m in
     let found : HasTurn table (length blocks - at .0) = q .every-turn (length blocks - at .0) (omega (arith, at .1)) (omega arith) in

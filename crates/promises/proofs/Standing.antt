@@ -22,7 +22,7 @@ use Rattle.rules.proofs.Table.{rows-same, length-put-row, column-put-row, colum
 use Rattle.rules.proofs.Grant.{granules-above, Fits}
 use Rattle.rules.proofs.Release.{Oldest, if-quarantined-no, if-quarantined-same, evict-row-rows, evict-row-empty, evict-row-other, evict-row-count, quarantine-row-lengths, quarantine-row-own, quarantine-row-other, quarantine-row-sum, settled-has}
 use Rattle.promises.specs.History.{Block, block, others}
-use Rattle.promises.specs.Rows.{_∈_, Held, of-row}
+use Rattle.promises.specs.Rows.{_∈_, Held, of-row, RowOf}
 use Rattle.promises.proofs.Blocks.{Distinct, distinct-nil, distinct-cons, distinct-others, others-of, others-in, length-others}
 use Rattle.promises.proofs.Laid.{Laid, each-row, of-row-same}
 use Rattle.promises.proofs.Kept.{fits-clear, laid-grant, laid-quarantine, laid-evict}
@@ -106,7 +106,7 @@ in-quarantine-same table table′ i same-rows same not-was not-now =
 -- ---- live rows and live blocks
 
 pub record LiveRows (table : List ℕ) (blocks : List Block) : Type 0 where
-  pub row : (x : Block) → x ∈ blocks → (i : ℕ) × (i < rows table) × (state table i ≡ live) × (of-row table i ≡ x)
+  pub row : (x : Block) → x ∈ blocks → RowOf table live x
   pub listed : (i : ℕ) → i < rows table → state table i ≡ live → of-row table i ∈ blocks
   pub distinct : Distinct blocks
 
@@ -134,7 +134,7 @@ live-put table blocks i p s below not-live new lives =
           ⊎-elim
           (λ e. (i, omega (arith, same-rows), own 2 (omega arith), own-block ∙ sym e))
           (λ later.
-          let was : (j : ℕ) × (j < rows table) × (state table j ≡ live) × (of-row table j ≡ x) = lives .row x later in
+          let was : RowOf table live x = lives .row x later in
           let differ : was .0 ≢ i = λ e. not-live (ap (state table) (sym e) ∙ was .2) in
           (was .0, omega (arith, same-rows, was .1), other 2 (was .0) (omega arith) differ ∙ was .2, same-block (was .0) differ ∙ was .3))
           (List·Memᴰ·cases-cons m);
@@ -157,7 +157,7 @@ module _ (table table′ : List ℕ) (i : ℕ) (same-rows : rows table′ ≡ ro
   live-other : state table i ≢ live → LiveRows table blocks → LiveRows table′ blocks
   live-other not-live lives = record {
     row = λ x m.
-        let was : (j : ℕ) × (j < rows table) × (state table j ≡ live) × (of-row table j ≡ x) = lives .row x m in
+        let was : RowOf table live x = lives .row x m in
         let differ : was .0 ≢ i = λ e. not-live (ap (state table) (sym e) ∙ was .2) in
         (was .0, omega (arith, same-rows, was .1), other 2 (was .0) (omega arith) differ ∙ was .2, same-block (was .0) differ ∙ was .3);
     listed =
@@ -172,7 +172,7 @@ module _ (table table′ : List ℕ) (i : ℕ) (same-rows : rows table′ ≡ ro
       → LiveRows table blocks → LiveRows table′ (others a blocks)
   live-leaves a at-a only lives = record {
     row = λ x m.
-        let was : (j : ℕ) × (j < rows table) × (state table j ≡ live) × (of-row table j ≡ x) = lives .row x (others-of a blocks x m .0) in
+        let was : RowOf table live x = lives .row x (others-of a blocks x m .0) in
         let differ : was .0 ≢ i =
         λ e. others-of a blocks x m .1 (ap (λ y. y .address) (sym (was .3)) ∙ ap (λ j. granule * start table j) e ∙ at-a) in
         (was .0, omega (arith, same-rows, was .1), other 2 (was .0) (omega arith) differ ∙ was .2, same-block (was .0) differ ∙ was .3);
@@ -221,7 +221,7 @@ module _ {S R : ℕ} {shadow table : List ℕ} {blocks : List Block} (standing :
         lives =
             live-put table blocks i p s below (λ e. absurd (omega arith))
             (λ x m e.
-            let row : (j : ℕ) × (j < rows table) × (state table j ≡ live) × (of-row table j ≡ x) = standing .lives .row x m in
+            let row : RowOf table live x = standing .lives .row x m in
             let h : Held table (row .0) = record { below = row .1; has = inl (row .2) } in
             let at : granule * start table (row .0) ≡ granule * p = ap (λ y. y .address) (row .3) ∙ e in
             ⊎-elim {C = ⊥}

@@ -53,6 +53,10 @@ pub record Held (table : List ℕ) (i : ℕ) : Type 0 where
 abbrev pub of-row : List ℕ → ℕ → Block
 of-row table i = record { address = granule * start table i; size = size table i }
 
+-- one of the rows in a state has that block
+abbrev pub RowOf : List ℕ → ℕ → Block → Type 0
+RowOf table wanted x = (i : ℕ) × (i < rows table) × (state table i ≡ wanted) × (of-row table i ≡ x)
+
 -- ---- the shadow that a table draws
 
 -- granule g is one of row i's, and the row is live or quarantined

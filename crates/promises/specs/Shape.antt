@@ -11,7 +11,7 @@ use Rattle.rules.specs.Shadow.{negative, addressable}
 use Rattle.rules.specs.Release.{in-quarantine}
 use Rattle.promises.specs.History.{Block, has-byte, lies-in, latest}
 use Rattle.promises.specs.Replay.{Replay, ran, happened}
-use Rattle.promises.specs.Rows.{_∈_, Held, of-row, drawn}
+use Rattle.promises.specs.Rows.{_∈_, Held, of-row, drawn, RowOf}
 
 -- what a table is from an opening on, and the shadow a function of it
 pub record ShapedAs (S : ℕ) (shadow table : List ℕ) : Type 0 where
@@ -30,8 +30,8 @@ Shape = (r : Replay) → ShapedAs (length (r .shadow)) (ran r .state .shadow) (r
 -- the live rows are the blocks granted and not yet released, the quarantined rows the latest releases, and no row is empty exactly when
 -- as many blocks are held as there are rows
 pub record RowsAre (table : List ℕ) (live-blocks quarantine : List Block) : Type 0 where
-  pub live-rows : (x : Block) → (x ∈ live-blocks) ↔ ((i : ℕ) × (i < rows table) × (state table i ≡ live) × (of-row table i ≡ x))
-  pub quarantined-rows : (x : Block) → (x ∈ quarantine) ↔ ((i : ℕ) × (i < rows table) × (state table i ≡ quarantined) × (of-row table i ≡ x))
+  pub live-rows : (x : Block) → (x ∈ live-blocks) ↔ RowOf table live x
+  pub quarantined-rows : (x : Block) → (x ∈ quarantine) ↔ RowOf table quarantined x
   pub full : (length (live-blocks ++ quarantine) ≡ rows table) ↔ ((i : ℕ) → i < rows table → state table i ≢ empty)
 
 abbrev pub RowsAreBlocks : Type 0
