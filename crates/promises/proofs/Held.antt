@@ -15,7 +15,7 @@ use Rattle.rules.specs.Limits.{granule, empty, live, quarantined}
 use Rattle.rules.specs.Table.{rows, start, state, is-empty}
 use Rattle.rules.specs.Answers.{in-numbers, status}
 use Rattle.rules.specs.Grant.{counted, granules, place, empty-row, grant-at, grant, kept}
-use Rattle.rules.specs.Release.{row-at, release-row, release, Pool, quarantine-row, settle}
+use Rattle.rules.specs.Release.{row-at, release-row, release, Pool, quarantine-row}
 use Rattle.rules.specs.Feed.{act, act-line}
 use Rattle.rules.proofs.Tests.{by-order}
 use Rattle.rules.proofs.Lowest.{Lowest, below-all}
@@ -26,13 +26,13 @@ use Rattle.promises.specs.Rows.{_∈_, past, Apart, Free, Starts, Held, 
 use Rattle.promises.specs.Held.{NotAgain, PlacedBy, Placement, ReleasedBy, Releases, SeparatedIn, Separation, Quarantine, Heavier, LongestRun, NeverEvicts, Evicted, ReleasesNothing}
 use Rattle.promises.proofs.History.{heard-append, heard-done}
 use Rattle.promises.proofs.Replay.{Moment, acted-on, one-status}
-use Rattle.promises.proofs.Blocks.{has-byte-true, has-byte-not, at-one, at-none, others-none}
+use Rattle.promises.proofs.Blocks.{has-byte-true, has-byte-not, at-none, others-none}
 use Rattle.promises.proofs.Laid.{ends, Laid}
 use Rattle.promises.proofs.Kept.{fits-clear, clear-fits}
 use Rattle.promises.proofs.Standing.{in-use, in-use-all, in-use-fewer}
-use Rattle.promises.proofs.Latest.{latest-longest, latest-heavy, latest-again}
-use Rattle.promises.proofs.Queue.{queue-row, queue-block, Queue, queue-quarantine, queue-settle}
-use Rattle.promises.proofs.Invariant.{Stands, Holds, line-moment, replay-holds, held-row, row-held, held-count, HoldsOf, none-at-zero}
+use Rattle.promises.proofs.Latest.{latest-longest, latest-heavy}
+use Rattle.promises.proofs.Queue.{queue-row, queue-block, Queue, queue-quarantine}
+use Rattle.promises.proofs.Invariant.{released-queue, Stands, Holds, line-moment, replay-holds, held-row, row-held, held-count, HoldsOf, none-at-zero}
 
 -- ---- held blocks stay a redzone apart
 
@@ -243,16 +243,9 @@ module _ {S R Q : ℕ} {shadow table : List ℕ} {h : History} (stands : Stands 
   unfolding release-row
   evicted-of i a found =
       let pool : Pool = record { shadow = shadow; table = table } in
-      let before : List Block = latest R Q (h .released) in
-      let entered : Queue R (quarantine-row pool i .table) (of-row table i ∷ before) =
-      queue-quarantine R pool before i (found .below) (found .has) (stands .queue) in
-      let left : Queue R (settle R Q (quarantine-row pool i) .pool .table) (latest R Q (of-row table i ∷ before)) =
-      queue-settle R Q (quarantine-row pool i) (of-row table i ∷ before) entered in
-      let own : at a (h .live) ≡ of-row table i ∷ [] =
-      at-one a (h .live) (of-row table i) (stands .standing .lives .distinct) (stands .standing .lives .listed i (found .below) (found .has)) (found .at) in
-      let same : latest R Q (of-row table i ∷ before) ≡ latest R Q (at a (h .live) ++ h .released) =
-      latest-again R Q (of-row table i) (h .released) ∙ ap (λ l. latest R Q (l ++ h .released)) (sym own) in
-      ap Done (omega (arith, settle-count R Q (quarantine-row pool i), entered .count, left .count, ap length same))
+      let entered : Queue R (quarantine-row pool i .table) (of-row table i ∷ latest R Q (h .released)) =
+      queue-quarantine R pool (latest R Q (h .released)) i (found .below) (found .has) (stands .queue) in
+      ap Done (omega (arith, settle-count R Q (quarantine-row pool i), entered .count, released-queue stands i a found .count))
 
 -- what a release found, and what it said
 record Gone (R Q : ℕ) (h : History) (a : ℕ) (x : Exchange) : Type 0 where

@@ -70,6 +70,19 @@ module _ {S R Q : ℕ} {shadow table : List ℕ} {h : History} (stands : Stands 
       let at-zero : granule * start table (row .0) ≡ 0 = ap (λ y. y .address) (row .3) ∙ e in
       omega (arith, stands .above)
 
+  -- live row i, at a, is released: once all evictions are done, what is quarantined is the longest run of the releases with it
+  pub released-queue : (i a : ℕ) → StartsAt live table a i
+      → Queue R (settle R Q (quarantine-row (record { shadow = shadow; table = table }) i) .pool .table) (latest R Q (at a (h .live) ++ h .released))
+  released-queue i a s =
+      let pool : Pool = record { shadow = shadow; table = table } in
+      let own : Block = of-row table i in
+      let listed : own ∈ h .live = stands .standing .lives .listed i (s .below) (s .has) in
+      subst (Queue R (settle R Q (quarantine-row pool i) .pool .table))
+      (latest-again R Q own (h .released)
+      ∙ ap (λ l. latest R Q (l ++ h .released)) (sym (at-one a (h .live) own (stands .standing .lives .distinct) listed (s .at))))
+      (queue-settle R Q (quarantine-row pool i) (own ∷ latest R Q (h .released))
+      (queue-quarantine R pool (latest R Q (h .released)) i (s .below) (s .has) (stands .queue)))
+
   -- a release
   stands-release : (a : ℕ) → Leaves S R Q h (Release a) (release R Q shadow table a)
   unfolding told done status in-numbers release-row
@@ -84,20 +97,10 @@ module _ {S R Q : ℕ} {shadow table : List ℕ} {h : History} (stands : Stands 
       (λ above i e.
       let pool : Pool = record { shadow = shadow; table = table } in
       let s : StartsAt live table a i = row-at-some live table a i e in
-      let own : Block = of-row table i in
-      let listed : own ∈ h .live = stands .standing .lives .listed i (s .below) (s .has) in
-      let entered : Queue R (quarantine-row pool i .table) (own ∷ latest R Q (h .released)) =
-      queue-quarantine R pool (latest R Q (h .released)) i (s .below) (s .has) (stands .queue) in
-      let settled : Queue R (settle R Q (quarantine-row pool i) .pool .table) (latest R Q (own ∷ latest R Q (h .released))) =
-      queue-settle R Q (quarantine-row pool i) (own ∷ latest R Q (h .released)) entered in
       record {
         above = stands .above;
         standing = standing-settle Q (quarantine-row pool i) (standing-quarantine pool (stands .standing) i a (s .below) (s .has) (s .at));
-        queue =
-            subst (Queue R (settle R Q (quarantine-row pool i) .pool .table))
-            (latest-again R Q own (h .released)
-            ∙ ap (λ l. latest R Q (l ++ h .released)) (sym (at-one a (h .live) own (stands .standing .lives .distinct) listed (s .at))))
-            settled;
+        queue = released-queue i a s;
       })
     where
       nowhere : a ≡ 0 → (x : Block) → x ∈ h .live → x .address ≢ a

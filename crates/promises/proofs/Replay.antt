@@ -78,7 +78,6 @@ asked st = frame-of-line (st .session .unfinished) (st .session .line)
 pub record Moment (P : State → History → Type 0) (h : History) (x : Exchange) : Type 0 where
   pub st : State
   pub holds : P st h
-  pub lent : LentState st
   pub asks-is : asks x ≡ asked st
   pub status-is : status-of x ≡ some (status (act-line st .answer))
   pub kind-is : in-numbers (act-line st .answer) .kind < 16 ^ 2 → kind-of x ≡ some (in-numbers (act-line st .answer) .kind)
@@ -148,7 +147,6 @@ module _ (P : State → History → Type 0)
       let now : Moment P h x = record {
         st = st;
         holds = holds;
-        lent = lent;
         asks-is = spells-asks spells;
         status-is = status-answered line answer (status-fits answer);
         kind-is = kind-answered line answer;
