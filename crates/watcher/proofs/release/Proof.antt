@@ -9,15 +9,6 @@ use Rattle.watcher.proofs.Calls.{releases-is}
 use Rattle.watcher.proofs.release.Statement.{statement}
 use Rattle.watcher.proofs.release.Tie as tie
 
-fits-lent-requires : tie.Need-fits-lent-requires
-fits-lent-requires c κs = search needs
-
-same-length : tie.Need-same-length
-same-length c = search needs
-
-same-length-2 : tie.Need-same-length-2
-same-length-2 c = search needs
-
 returns : tie.Need-returns
 returns c =
     let start = c .before .before .before .before .before .before in
@@ -28,12 +19,6 @@ release-requires : tie.Need-release-requires
 release-requires c κs =
     let test = c .before .before in
     lent-true _ _ _ (passed (test .before .fits-lent .ensures) (test .if1 .left))
-
-same-length-3 : tie.Need-same-length-3
-same-length-3 c = search needs
-
-same-length-4 : tie.Need-same-length-4
-same-length-4 c = search needs
 
 returns-2 : tie.Need-returns-2
 unfolding release-call
@@ -47,11 +32,11 @@ pub release-spec : {M : Type 1} → statement M
 release-spec =
     tie.close
     (tie.spec
-    fits-lent-requires
-    same-length
-    same-length-2
+    (λ c κs. search needs)
+    (λ c. search needs)
+    (λ c. search needs)
     returns
     release-requires
-    same-length-3
-    same-length-4
+    (λ c. search needs)
+    (λ c. search needs)
     returns-2)
