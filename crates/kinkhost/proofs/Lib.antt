@@ -1,0 +1,2 @@
+-- No second outcome fits a call's statement.
+pub mod Only

@@ -1,0 +1,2 @@
+-- What the calls that answer in numbers say.
+pub mod Calls

@@ -1,0 +1,152 @@
+/* Kinkhost: a watcher for a fixed memory pool, judging grants, releases, reads and writes by the published rules of
+ * AddressSanitizer. Link libkinkhost.a (`rt staticlib kinkhost` writes it to target/staticlib/), an x86-64 archive that
+ * keeps no state, allocates nothing and calls nothing but memset: all that it works on is lent by the caller, call by
+ * call.
+ *
+ * The pool is an arena of 8 x S bytes, which is never looked at: addresses are offsets from its first byte, and a
+ * granule is 8 bytes at a multiple of 8. The caller owns
+ *
+ *   - a shadow of S bytes, one a granule: S is 8 to 65,536;
+ *   - a table of rows, four numbers each: start granule, size in bytes, state (0 empty, 1 live, 2 quarantined), turn.
+ *     1 to 1,024 rows, so 4 to 4,096 numbers;
+ *   - a session, passed by value and handed back by value.
+ *
+ * Every length here counts elements: bytes of a shadow, a piece or a room, numbers of a table.
+ *
+ * What a caller owes, since no call can see it: each pointer has that many elements behind it (where the length is 0,
+ * any pointer will do, also a null one), and the buffers of one call do not overlap. Nothing else. Whatever the
+ * numbers, the session and the bytes in the buffers are, scribbled or forged ones too, each call returns and answers
+ * as below, and touches nothing but what it was lent. That is proved for the Rattle functions that these are compiled
+ * from; the compiler, and the C on your side of the call, are not part of the proof.
+ *
+ * The answers, checked in this order (07 and 08 for releases only, 09 for accesses only). Statuses are decimal.
+ *
+ *   00  done                                                       kind 0; the address, the count evicted, or 0
+ *   01  the line is not 18 hex digits                              kind 0, value 0
+ *   02  the kind is not 01 to 04                                   kind 0, value 0
+ *   03  B is not zero in a grant or a release                      kind 0, value 0
+ *   05  grant, no row is empty                                     kind 0, value 0
+ *   06  grant, no start exists                                     kind 0, value 0
+ *   07  release, address not 0, no live or quarantined row starts there        kind 0, value 0
+ *   08  release, address not 0, no live row but a quarantined one starts there kind 0, value 0
+ *   09  the access is not good             kind: the shadow byte, or ff outside the arena; value: the first bad byte
+ *   21  opening: the shadow's length is not 8 to 65,536
+ *   22  opening: the redzone is not 2 to 256
+ *   23  opening: the table's length is not 4 to 4,096, or not a multiple of 4
+ *   24  any later call: the session is closed, the lent lengths are not the session's, or one of its fields is outside
+ *       its limits
+ *   31  map: the address is beyond the map's last
+ *   32  map: the address is in the gap
+ *
+ * None of 01 to 24 changes a byte of the shadow or a number of the table. */
+#ifndef KINKHOST_H
+#define KINKHOST_H
+
+#include <stddef.h>
+#include <stdint.h>
+
+#ifdef __cplusplus
+extern "C" {
+#endif
+
+/* A session. A closed one is all zeros. It may be copied, stored and compared field by field; a caller has no need to
+ * change it. 24 answers one that is closed, whose lengths are not those of the lent buffers, whose redzone or
+ * unfinished length is outside its limits, or that has a place of `line` beyond `unfinished` that is not zero. */
+struct kinkhost_session {
+    size_t granules;     /* S */
+    size_t rows;         /* of the table */
+    size_t redzone;      /* R in granules, 2 to 256 */
+    uint32_t quarantine; /* Q in bytes, any number */
+    size_t unfinished;   /* the length of the unfinished line, where 19 stands for 19 or more */
+    uint8_t line[18];    /* its first bytes, then zeros */
+};
+
+/* An answer in the table's numbers. */
+struct kinkhost_reply {
+    uint8_t status;
+    uint8_t kind;
+    uint32_t value;
+};
+
+/* What an opening hands back: 00 and the session, or 21, 22 or 23 and a closed one. */
+struct kinkhost_opened {
+    struct kinkhost_session session;
+    uint8_t status;
+};
+
+/* What a feed hands back: 00 or 24, the session to go on with, and how many bytes it took and wrote. */
+struct kinkhost_fed {
+    struct kinkhost_session session;
+    uint8_t status;
+    size_t taken;
+    size_t wrote;
+};
+
+/* The regions of the two published address maps, in `region` below. */
+enum {
+    KINKHOST_NOWHERE = 0,
+    KINKHOST_LOW_MEM = 1,
+    KINKHOST_LOW_SHADOW = 2,
+    KINKHOST_SHADOW_GAP = 3,
+    KINKHOST_HIGH_SHADOW = 4,
+    KINKHOST_HIGH_MEM = 5
+};
+
+/* What a map hands back: 00, 31 or 32, the region, and the shadow address, 0 where the status is not 00. */
+struct kinkhost_mapped {
+    uint8_t status;
+    uint8_t region;
+    uint64_t shadow;
+};
+
+/* Opens a session: 21, 22, 23, in that order, write nothing and hand back the closed session. Otherwise the shadow is
+ * now fa throughout, the table zeros, and the session has these lengths, this redzone in granules and this quarantine
+ * limit in bytes, with no unfinished line. */
+struct kinkhost_opened kinkhost_open(uint8_t *shadow, size_t shadow_length, uint32_t *table, size_t table_length,
+                                     size_t redzone, uint32_t quarantine);
+
+/* Grants `size` bytes, 0 counting as 1: 24, 05, 06, or 00 with the block's address. u granules are the size / 8,
+ * rounded up. The start is the lowest granule p with p at least R, p + u + R at most S, and every shadow byte from
+ * p - R to p + u + R - 1 equal to fa. Whole granules become 00 and a remainder goes into the last one; the lowest empty
+ * row becomes (p, size, 1, 0); the value is 8p. As the frame 01 answers; the unfinished line is left alone. */
+struct kinkhost_reply kinkhost_grant(struct kinkhost_session session, uint8_t *shadow, size_t shadow_length,
+                                     uint32_t *table, size_t table_length, uint32_t size);
+
+/* Releases the block at `address`: 24, 07, 08, or 00 with the number of blocks evicted. Address 0 is done and changes
+ * nothing. The lowest live row that starts there becomes quarantined, its granules fd, its turn the number of
+ * quarantined rows; then, while their sizes sum to more than Q, the one with the lowest turn is evicted: granules fa,
+ * row emptied, every other turn above 0 lessened by one. As the frame 02 answers; the unfinished line is left alone. */
+struct kinkhost_reply kinkhost_release(struct kinkhost_session session, uint8_t *shadow, size_t shadow_length,
+                                       uint32_t *table, size_t table_length, uint32_t address);
+
+/* Judges a read or a write of `length` bytes at `address`, which are judged alike: 24, 00, or 09 with the first byte
+ * touched that is outside the arena or not among its granule's addressable bytes. The touched bytes are whole numbers
+ * that do not wrap at 32 bits. A length of 0 touches nothing and is good at any address. As the frames 03 and 04
+ * answer; the unfinished line is left alone, and nothing is written. */
+struct kinkhost_reply kinkhost_access(struct kinkhost_session session, const uint8_t *shadow, size_t shadow_length,
+                                      const uint32_t *table, size_t table_length, uint32_t address, uint32_t length);
+
+/* Feeds a piece of a trace. A line is 18 hex digits of either case (kind 2, A 8, B 8) and a line feed; each line feed
+ * gives one answer of 13 bytes (status 2, kind 2, value 8, in lower case, and a line feed). Bytes are taken in order
+ * until the piece ends, or the next byte is a line feed and fewer than 13 bytes of room are left. Room beyond the bytes
+ * written is unchanged. 24 takes and writes nothing and hands the session back as it came. However a trace is cut into
+ * pieces, each call offered what was not taken, and whatever room is lent: the joined report and the last session,
+ * shadow and table are those of the whole trace fed at once. An unfinished line is never acted on. */
+struct kinkhost_fed kinkhost_feed(struct kinkhost_session session, uint8_t *shadow, size_t shadow_length,
+                                  uint32_t *table, size_t table_length, const uint8_t *piece, size_t piece_length,
+                                  uint8_t *room, size_t room_length);
+
+/* The length of the unfinished line, 0 to 19, where 19 stands for 19 or more: 00 with the length, or 24 where a field
+ * of the session is outside its limits. */
+struct kinkhost_reply kinkhost_unfinished(struct kinkhost_session session);
+
+/* The published 32-bit and 64-bit address maps, for any address: the region, and address / 8 plus 20000000 or 7fff8000
+ * hex. 31 gives no region and 0, 32 gives the gap and 0. */
+struct kinkhost_mapped kinkhost_map32(uint64_t address);
+struct kinkhost_mapped kinkhost_map64(uint64_t address);
+
+#ifdef __cplusplus
+}
+#endif
+
+#endif
