@@ -1,0 +1,312 @@
+/* Checks that the structs of kinkhost.h are those of the archive. The archive's functions are declared a second time,
+ * under raw types, and what they write and read is looked at byte by byte where the header says that its fields are; so
+ * an edit of either side alone is caught. For x86-64 (System V): a result of more than 16 bytes is written through a
+ * hidden first pointer, a smaller one comes in rax and rdx, and an argument of more than 16 bytes is on the stack. */
+#include <stdio.h>
+#include <string.h>
+
+#include "kinkhost.h"
+
+/* A session as bytes: class MEMORY like the session itself, so it is passed in the same place. */
+struct raw_session {
+    unsigned char bytes[sizeof(struct kinkhost_session)];
+};
+
+struct raw_pair {
+    uint64_t rax, rdx;
+};
+
+void raw_open(void *, uint8_t *, size_t, uint32_t *, size_t, size_t, uint32_t) __asm__("kinkhost_open");
+void raw_feed(void *, struct raw_session, uint8_t *, size_t, uint32_t *, size_t, const uint8_t *, size_t, uint8_t *,
+              size_t) __asm__("kinkhost_feed");
+uint64_t raw_grant(struct raw_session, uint8_t *, size_t, uint32_t *, size_t, uint32_t) __asm__("kinkhost_grant");
+uint64_t raw_release(struct raw_session, uint8_t *, size_t, uint32_t *, size_t, uint32_t) __asm__("kinkhost_release");
+uint64_t raw_access(struct raw_session, const uint8_t *, size_t, const uint32_t *, size_t, uint32_t,
+                    uint32_t) __asm__("kinkhost_access");
+uint64_t raw_unfinished(struct raw_session) __asm__("kinkhost_unfinished");
+struct raw_pair raw_map32(uint64_t) __asm__("kinkhost_map32");
+struct raw_pair raw_map64(uint64_t) __asm__("kinkhost_map64");
+
+/* Values that no two fields share. Redzone 256 is the only one that each change of a single byte breaks. */
+enum { GRANULES = 24, ROWS = 5, REDZONE = 256, MEMORY = 256, FIELDS = 6, ANSWER = 13 };
+#define QUARANTINE 0xa1b2c3d4u
+
+struct field {
+    const char *name;
+    size_t offset, width;
+};
+
+#define FIELD(type, name) { #name, offsetof(struct type, name), sizeof(((struct type *)0)->name) }
+
+static const struct field in_session[FIELDS] = {
+    FIELD(kinkhost_session, granules),   FIELD(kinkhost_session, rows),       FIELD(kinkhost_session, redzone),
+    FIELD(kinkhost_session, quarantine), FIELD(kinkhost_session, unfinished), FIELD(kinkhost_session, line),
+};
+static const struct field in_opened[] = { FIELD(kinkhost_opened, session), FIELD(kinkhost_opened, status) };
+static const struct field in_fed[] = { FIELD(kinkhost_fed, session), FIELD(kinkhost_fed, status),
+                                       FIELD(kinkhost_fed, taken), FIELD(kinkhost_fed, wrote) };
+static const struct field in_reply[] = { FIELD(kinkhost_reply, status), FIELD(kinkhost_reply, kind),
+                                         FIELD(kinkhost_reply, value) };
+static const struct field in_mapped[] = { FIELD(kinkhost_mapped, status), FIELD(kinkhost_mapped, region),
+                                          FIELD(kinkhost_mapped, shadow) };
+
+static uint8_t shadow[GRANULES], room[MEMORY];
+static uint32_t table[4 * ROWS];
+static unsigned facts, wrong;
+
+static void fact(int holds, const char *what, const char *name, size_t at)
+{
+    facts++;
+    if (!holds) {
+        wrong++;
+        printf("wrong: %s: %s, byte %zu\n", what, name, at);
+    }
+}
+
+/* The whole width of a field at `base` holds these bytes, or this number, little-endian. */
+static void holds_bytes(const char *what, struct field field, const unsigned char *base, const void *bytes)
+{
+    fact(memcmp(base + field.offset, bytes, field.width) == 0, what, field.name, field.offset);
+}
+
+static void holds(const char *what, struct field field, const unsigned char *base, uint64_t number)
+{
+    int same = field.width <= 8 && (field.width == 8 || number >> (8 * field.width) == 0);
+    for (size_t i = 0; same && i < field.width; i++)
+        same = base[field.offset + i] == (unsigned char)(number >> (8 * i));
+    fact(same, what, field.name, field.offset);
+}
+
+static void holds_session(const char *what, const unsigned char *base, uint64_t redzone, const char *line)
+{
+    unsigned char places[sizeof(((struct kinkhost_session *)0)->line)] = { 0 };
+    memcpy(places, line, strlen(line));
+    holds(what, in_session[0], base, GRANULES);
+    holds(what, in_session[1], base, ROWS);
+    holds(what, in_session[2], base, redzone);
+    holds(what, in_session[3], base, QUARANTINE);
+    holds(what, in_session[4], base, strlen(line));
+    holds_bytes(what, in_session[5], base, places);
+}
+
+/* A byte that keeps two patterns was not written. The last one written is the last of the last field, and the struct
+ * ends at the next multiple of 8, the alignment of each struct here: neither side has a field behind the other's. */
+static void ends_at(const char *what, struct field last, size_t size, unsigned char memory[2][MEMORY])
+{
+    size_t end = 0;
+    for (size_t i = 0; i < MEMORY; i++)
+        if (memory[0][i] != 0x5a || memory[1][i] != 0xa5)
+            end = i + 1;
+    fact(end == last.offset + last.width, what, last.name, end);
+    fact((end + 7) / 8 * 8 == size, what, "its size", end);
+}
+
+static void fill(unsigned char memory[2][MEMORY])
+{
+    memset(memory[0], 0x5a, MEMORY);
+    memset(memory[1], 0xa5, MEMORY);
+}
+
+static void look_at_opened(void)
+{
+    unsigned char memory[2][MEMORY];
+    static const struct kinkhost_session closed;
+    fill(memory);
+    for (int i = 0; i < 2; i++) {
+        raw_open(memory[i], shadow, GRANULES, table, 4 * ROWS, REDZONE, QUARANTINE);
+        holds_session("opened", memory[i] + in_opened[0].offset, REDZONE, "");
+        holds("opened", in_opened[1], memory[i], 0);
+    }
+    ends_at("opened", in_opened[1], sizeof(struct kinkhost_opened), memory);
+    fill(memory);
+    for (int i = 0; i < 2; i++) {
+        raw_open(memory[i], shadow, GRANULES, table, 4 * ROWS, REDZONE + 1, QUARANTINE);
+        for (int field = 0; field < FIELDS; field++)
+            holds_bytes("refused opening", in_session[field], memory[i] + in_opened[0].offset, &closed);
+        holds("refused opening", in_opened[1], memory[i], 22);
+    }
+}
+
+/* An open session with nothing unfinished, laid out by the header; padding is filled, as it means nothing. */
+static struct raw_session laid_out(uint64_t redzone)
+{
+    struct raw_session session;
+    const uint64_t numbers[FIELDS - 1] = { GRANULES, ROWS, redzone, QUARANTINE, 0 };
+    memset(session.bytes, 0xee, sizeof session.bytes);
+    for (int field = 0; field < FIELDS - 1; field++)
+        memcpy(session.bytes + in_session[field].offset, &numbers[field], in_session[field].width);
+    memset(session.bytes + in_session[5].offset, 0, in_session[5].width);
+    return session;
+}
+
+static void look_at_fed(void)
+{
+    static const char text[] = "030000000000000000\n0102";
+    unsigned char memory[2][MEMORY];
+    fill(memory);
+    for (int i = 0; i < 2; i++) {
+        raw_feed(memory[i], laid_out(2), shadow, GRANULES, table, 4 * ROWS, (const uint8_t *)text, sizeof text - 1,
+                 room, sizeof room);
+        holds_session("fed", memory[i] + in_fed[0].offset, 2, "0102");
+        holds("fed", in_fed[1], memory[i], 0);
+        holds("fed", in_fed[2], memory[i], sizeof text - 1);
+        holds("fed", in_fed[3], memory[i], ANSWER);
+    }
+    ends_at("fed", in_fed[3], sizeof(struct kinkhost_fed), memory);
+}
+
+/* 24 hands the session back: a different value in each byte of it must come back in each byte of a field. */
+static void look_at_handed_back(void)
+{
+    struct raw_session session;
+    unsigned char memory[2][MEMORY];
+    for (size_t i = 0; i < sizeof session.bytes; i++)
+        session.bytes[i] = (unsigned char)(i + 1);
+    fill(memory);
+    for (int i = 0; i < 2; i++) {
+        raw_feed(memory[i], session, shadow, GRANULES, table, 4 * ROWS, room, 0, room, 0);
+        for (int field = 0; field < FIELDS; field++)
+            holds_bytes("handed back", in_session[field], memory[i] + in_fed[0].offset,
+                        session.bytes + in_session[field].offset);
+        holds("handed back", in_fed[1], memory[i], 24);
+        holds("handed back", in_fed[2], memory[i], 0);
+        holds("handed back", in_fed[3], memory[i], 0);
+    }
+}
+
+/* The status that each call with a lent session gives, over buffers on which no call changes anything: a piece of no
+ * bytes, a grant for which redzone 256 leaves no start, a release of 0, an access of 0 bytes. */
+static unsigned status_of(int call, struct raw_session session, unsigned char *fed)
+{
+    switch (call) {
+    case 0:
+        raw_feed(fed, session, shadow, GRANULES, table, 4 * ROWS, room, 0, room, 0);
+        return fed[in_fed[1].offset];
+    case 1:
+        return raw_grant(session, shadow, GRANULES, table, 4 * ROWS, 1) >> (8 * in_reply[0].offset) & 0xff;
+    case 2:
+        return raw_release(session, shadow, GRANULES, table, 4 * ROWS, 0) >> (8 * in_reply[0].offset) & 0xff;
+    default:
+        return raw_access(session, shadow, GRANULES, table, 4 * ROWS, 0, 0) >> (8 * in_reply[0].offset) & 0xff;
+    }
+}
+
+/* Each byte of the session changed alone, in each call: one of a field breaks the session, save that quarantine is any
+ * number and comes back as it was lent; one between fields means nothing. */
+static void look_at_argument(void)
+{
+    static const unsigned good[4] = { 0, 6, 0, 0 };
+    for (int call = 0; call < 4; call++)
+        for (size_t i = 0; i <= sizeof(struct kinkhost_session); i++) {
+            struct raw_session session = laid_out(REDZONE);
+            unsigned char fed[MEMORY];
+            struct field owner = { "nothing changed, or between fields", i, 0 };
+            if (i < sizeof session.bytes)
+                session.bytes[i] ^= 0x80;
+            for (int field = 0; field < FIELDS; field++)
+                if (i - in_session[field].offset < in_session[field].width)
+                    owner = in_session[field];
+            int any = owner.width == 0 || owner.offset == in_session[3].offset;
+            fact(status_of(call, session, fed) == (any ? good[call] : 24), "lent", owner.name, i);
+            if (call == 0)
+                holds_bytes("lent", owner, fed + in_fed[0].offset, session.bytes + owner.offset);
+        }
+}
+
+/* A register's bytes in memory that is long enough for whatever the header says. */
+static void holds_reply(const char *what, uint64_t rax, uint64_t status, uint64_t kind, uint64_t value)
+{
+    unsigned char memory[MEMORY] = { 0 };
+    memcpy(memory, &rax, sizeof rax);
+    holds(what, in_reply[0], memory, status);
+    holds(what, in_reply[1], memory, kind);
+    holds(what, in_reply[2], memory, value);
+}
+
+static void look_at_reply(void)
+{
+    struct raw_session session = laid_out(2);
+    holds_reply("access", raw_access(session, shadow, GRANULES, table, 4 * ROWS, 0xa1b2c3d4, 1), 9, 0xff, 0xa1b2c3d4);
+    holds_reply("grant", raw_grant(session, shadow, GRANULES, table, 4 * ROWS, 1), 0, 0, 16);
+    holds_reply("release", raw_release(session, shadow, GRANULES, table, 4 * ROWS, 17), 7, 0, 0);
+    session.bytes[in_session[4].offset] = 19;
+    holds_reply("unfinished", raw_unfinished(session), 0, 0, 19);
+    fact(sizeof(struct kinkhost_reply) == sizeof(uint64_t), "reply", "its size: it comes in rax", 8);
+}
+
+/* The archive may carry padding along, so that quarantine comes back does not show its width. What a release does
+ * shows it: under a limit of 0 the block is evicted at once, and any byte of the limit that is not 0 keeps it. */
+static void look_at_quarantine(void)
+{
+    const struct field quarantine = in_session[3];
+    unsigned char opened[MEMORY];
+    for (size_t i = quarantine.offset; i < in_session[4].offset; i++) {
+        struct raw_session session = laid_out(2);
+        memset(session.bytes + quarantine.offset, 0, quarantine.width);
+        session.bytes[i] = 0x80;
+        raw_open(opened, shadow, GRANULES, table, 4 * ROWS, 2, 0);
+        holds_reply("quarantined", raw_grant(session, shadow, GRANULES, table, 4 * ROWS, 1), 0, 0, 16);
+        holds_reply("quarantined", raw_release(session, shadow, GRANULES, table, 4 * ROWS, 16), 0, 0,
+                    i - quarantine.offset < quarantine.width ? 0 : 1);
+    }
+}
+
+static void holds_mapped(const char *what, struct raw_pair pair, uint64_t status, uint64_t region, uint64_t address)
+{
+    unsigned char memory[MEMORY] = { 0 };
+    memcpy(memory, &pair, sizeof pair);
+    holds(what, in_mapped[0], memory, status);
+    holds(what, in_mapped[1], memory, region);
+    holds(what, in_mapped[2], memory, address);
+}
+
+static void look_at_mapped(void)
+{
+    holds_mapped("map32", raw_map32(0x87654321), 0, KINKHOST_HIGH_MEM, 0x30eca864);
+    holds_mapped("map32", raw_map32(UINT64_C(0x100000000)), 31, KINKHOST_NOWHERE, 0);
+    holds_mapped("map64", raw_map64(UINT64_C(0x7edcba987654)), 0, KINKHOST_HIGH_MEM, UINT64_C(0xfdc17528eca));
+    holds_mapped("map64", raw_map64(0x8fff7000), 32, KINKHOST_SHADOW_GAP, 0);
+    holds_mapped("map64", raw_map64(0x7fff8000), 0, KINKHOST_LOW_SHADOW, 0x8fff7000);
+    fact(sizeof(struct kinkhost_mapped) == sizeof(struct raw_pair), "mapped", "its size: it comes in rax and rdx", 16);
+}
+
+/* A new field of the header could stand in what is padding today. -Wextra with -Werror refuses an initializer that
+ * leaves a field out, so this does not compile then. */
+static void knows_every_field(void)
+{
+    struct kinkhost_session session = { 0, 0, 0, 0, 0, { 0 } };
+    struct kinkhost_opened opened = { session, 0 };
+    struct kinkhost_fed fed = { session, 0, 0, 0 };
+    struct kinkhost_reply reply = { 0, 0, 0 };
+    struct kinkhost_mapped mapped = { 0, 0, 0 };
+    (void)opened, (void)fed, (void)reply, (void)mapped;
+}
+
+static void list(const char *name, size_t size, const struct field *fields, size_t count)
+{
+    printf("%s: %zu bytes:", name, size);
+    for (size_t i = 0; i < count; i++)
+        printf("%s %s %zu", i ? "," : "", fields[i].name, fields[i].offset);
+    printf("\n");
+}
+
+#define LIST(type, fields) list(#type, sizeof(struct type), fields, sizeof fields / sizeof *fields)
+
+int main(void)
+{
+    /* In this order: each step calls only with what the steps before it found right, so that a wrong header ends in
+     * facts that are wrong and not in a crash. */
+    void (*const steps[])(void) = { knows_every_field, look_at_opened,   look_at_reply,       look_at_mapped,
+                                    look_at_fed,       look_at_argument, look_at_handed_back, look_at_quarantine };
+    for (size_t i = 0; i < sizeof steps / sizeof *steps && wrong == 0; i++)
+        steps[i]();
+    if (wrong == 0) {
+        LIST(kinkhost_session, in_session);
+        LIST(kinkhost_opened, in_opened);
+        LIST(kinkhost_fed, in_fed);
+        LIST(kinkhost_reply, in_reply);
+        LIST(kinkhost_mapped, in_mapped);
+    }
+    printf("layout: %u facts, %u wrong\n", facts, wrong);
+    return wrong != 0;
+}
