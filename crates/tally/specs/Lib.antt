@@ -1,0 +1,2 @@
+-- What a report says in sum.
+pub mod Tally

@@ -1,0 +1,64 @@
+-- What a report says in sum: its answers counted by number, the first line that was not done, and the verdict.
+use Prim.Native.Nat.{ℕ, zero, suc, _+_, _-_, _*_, _/_, _^_}
+use mathlib.Core.Bool.{true, false}
+use mathlib.Core.Path.{_≡_, refl}
+use mathlib.Core.List.{List}
+use lib.ListN.{length, getD, set, replicate}
+use lib.Dec.{eqb, ltb}
+use Rattle.rules.specs.Limits.{between, answer-bytes}
+use Rattle.tally.specs.declared.Tally.{Tally}
+
+abbrev pub tally : ℕ → List ℕ → ℕ → ℕ → Tally
+tally lines answers first answered = record { lines = lines; answers = answers; first = first; answered = answered }
+
+abbrev pub none : Tally
+none = tally 0 (replicate 10 0) 0 0
+
+-- one more, as far as 64 bits count
+unfoldable pub more : ℕ → ℕ
+more n = elim (ltb n (2 ^ 64 - 1)) [ true ↦ n + 1 | false ↦ n ]
+
+-- a digit from 0 to 9, or 10
+unfoldable pub units : ℕ → ℕ
+units b = elim (between 0x30 0x39 b) [ true ↦ b - 0x30 | false ↦ 10 ]
+
+-- the number of the answer that begins at a place, 00 to 09, by its two digits; 10 where they are something else
+unfoldable pub status-at : List ℕ → ℕ → ℕ
+status-at report at = elim (eqb (getD report at 0) 0x30) [ true ↦ units (getD report (at + 1) 0) | false ↦ 10 ]
+
+-- the counts by number, with one more of this one
+unfoldable pub counted : List ℕ → ℕ → List ℕ
+counted counts status = elim (ltb status 10) [ true ↦ set counts status (more (getD counts status 0)) | false ↦ counts ]
+
+-- with an answer of this number, and the first line not done as it was
+abbrev pub further : Tally → ℕ → Tally
+further t status = tally (more (t .lines)) (counted (t .answers) status) (t .first) (t .answered)
+
+-- with an answer of this number, which is the first that is not 00
+abbrev pub noted : Tally → ℕ → Tally
+noted t status = tally (more (t .lines)) (counted (t .answers) status) (more (t .lines)) status
+
+unfoldable pub with-answer : Tally → ℕ → Tally
+with-answer t status =
+    elim (eqb (t .first) 0) [ true ↦ elim (eqb status 0) [ true ↦ further t status | false ↦ noted t status ] | false ↦ further t status ]
+
+-- with the first n answers of a report
+unfoldable pub with-answers : Tally → List ℕ → ℕ → Tally
+with-answers t report zero = t
+with-answers t report (suc n) = with-answer (with-answers t report n) (status-at report (answer-bytes * n))
+
+pub with-answers-zero : (t : Tally) (report : List ℕ) → with-answers t report zero ≡ t
+unfolding with-answers
+with-answers-zero t report = refl
+
+pub with-answers-suc : (t : Tally) (report : List ℕ) (n : ℕ) → with-answers t report (suc n) ≡ with-answer (with-answers t report n) (status-at report (answer-bytes * n))
+unfolding with-answers
+with-answers-suc t report n = refl
+
+-- with every answer of a report
+unfoldable pub with-report : Tally → List ℕ → Tally
+with-report t report = with-answers t report (length report / answer-bytes)
+
+-- 0 where every line was done and none is left unfinished, else 1
+unfoldable pub verdict : Tally → ℕ → ℕ
+verdict t unfinished = elim (eqb (t .first) 0) [ true ↦ elim (eqb unfinished 0) [ true ↦ 0 | false ↦ 1 ] | false ↦ 1 ]
