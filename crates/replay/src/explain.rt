@@ -1,6 +1,5 @@
 // A sentence for a line that was not done: its number, what it asked, what was wrong, and at which byte.
 use crate::say;
-use crate::tally;
 use crate::words;
 use frames::lines;
 use rules::Frame;

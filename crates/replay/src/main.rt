@@ -5,7 +5,6 @@ mod offer;
 mod options;
 mod say;
 mod summary;
-mod tally;
 mod words;
 
 use offer::Run;

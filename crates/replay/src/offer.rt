@@ -1,13 +1,15 @@
 // Offering a piece of the trace to the watcher until all of it is taken, the report written as it comes.
 use crate::explain;
 use crate::say;
-use crate::tally;
 use rules::Fed;
 use rules::Session;
 use rules::limits::LINE_FEED;
 use tally::Tally;
 ghost use Prim.Native.Nat.{_<_, _≤_};
+ghost use mathlib.Core.Path.{_≡_};
+ghost use mathlib.Core.Bool.{true, false};
 ghost use lib.ListN.{length};
+ghost use Rattle.replay.specs.Offer.{Kept, Leads, Taken};
 
 // Where a replay stands.
 pub struct Run {
@@ -42,7 +44,9 @@ pub fn ended(run: Run) -> Run {
 }
 
 // At an error, which has been said.
-pub fn stopped(run: Run) -> Run {
+pub fn stopped(run: Run) -> Run
+    ensures { λ r. ⌜ r .whole ≡ false ⌝ }
+{
     let mut next = run;
     next.going = false;
     next.whole = false;
@@ -71,52 +75,50 @@ fn part_end(piece: &[u8], at: usize, explain: bool) -> usize
     to
 }
 
-// Where the next part begins. A feed takes at least a byte, and no more than it was offered.
-fn part_start(piece: &[u8], at: usize, taken: usize) -> usize
-    requires { ⌜ at < length (now piece) ⌝ }
-    ensures { λ r. ⌜ (at < r) × (r ≤ length (now (piece .entry))) ⌝ }
+// A feed that is refused, takes nothing, or says that it took or wrote more than there is: none of these can be, by its contract
+// and the room that is lent.
+fn not_taken(run: Run, status: u8) -> Run
+    ensures { λ r. ⌜ r .whole ≡ false ⌝ }
 {
-    let end = piece.len();
+    say::text(b"kinkhost: the watcher does not take the trace, ");
+    say::status(status);
+    say::text(b"\n");
+    stopped(run)
+}
+
+// What a feed answered of so many bytes: its report is written and counted.
+fn after(run: Run, fed: Fed, offered: usize, room: &[u8]) -> Run
+    ensures { λ r. ⌜ (r .whole ≡ true → Kept run fed offered (now (room .entry)) r) ⌝ }
+{
+    let taken = fed.taken;
+    let wrote = fed.wrote;
+    if fed.status != 0 {
+        return not_taken(run, fed.status);
+    }
     if taken == 0 {
-        return end;
+        return not_taken(run, fed.status);
     }
-    if end - at < taken {
-        return end;
+    if offered < taken {
+        return not_taken(run, fed.status);
     }
-    at + taken
-}
-
-// The part of the room that a feed wrote.
-fn report_in(room: &[u8], wrote: usize) -> &[u8] {
-    if wrote <= room.len() {
-        return &room[0..wrote];
+    if room.len() < wrote {
+        return not_taken(run, fed.status);
     }
-    room
-}
-
-// What a feed answered: its report is written and counted.
-fn after(run: Run, fed: Fed, room: &[u8]) -> Run {
-    if (fed.status != 0) | (fed.taken == 0) {
-        say::text(b"kinkhost: the watcher does not take the trace, ");
-        say::status(fed.status);
-        say::text(b"\n");
-        return stopped(run);
-    }
-    let report = report_in(room, fed.wrote);
-    let session = fed.session;
-    let before = run.tally;
-    if !io::write_all(1, report) {
+    let written = io::write_all(1, &room[0..wrote]);
+    if !written {
         os::fail(b"kinkhost: the report cannot be written");
         return stopped(run);
     }
+    let session = fed.session;
+    let before = run.tally;
     Run {
         going: true,
         whole: true,
         explain: run.explain,
         progress: run.progress,
         session,
-        tally: tally::with_report(before, report),
-        taken: fed.taken,
+        tally: tally::with_report(before, &room[0..wrote]),
+        taken,
     }
 }
 
@@ -133,24 +135,30 @@ fn explained(run: Run, asked: Session, part: &[u8], room: &[u8]) {
     }
 }
 
-fn feed(run: Run, shadow: &mut [u8], table: &mut [u32], part: &[u8], room: &mut [u8]) -> Run {
+// A part of the trace is offered once.
+fn feed(run: Run, shadow: &mut [u8], table: &mut [u32], part: &[u8], room: &mut [u8]) -> Run
+    ensures { λ r. ⌜ (r .whole ≡ true → Taken run (now (shadow .entry)) (now (table .entry)) (now (part .entry)) r (now (shadow .exit)) (now (table .exit))) ⌝ }
+{
     let asked = run.session;
     let fed = watcher::feed(asked, shadow, table, part, room);
-    let next = after(run, fed, room);
+    let next = after(run, fed, part.len(), room);
     explained(next, asked, part, room);
     next
 }
 
-pub fn all(run: Run, shadow: &mut [u8], table: &mut [u32], piece: &[u8], room: &mut [u8]) -> Run {
+// All of a piece. Where all of it was written, session, shadow, table and tally are those of the rules over the piece.
+pub fn all(run: Run, shadow: &mut [u8], table: &mut [u32], piece: &[u8], room: &mut [u8]) -> Run
+    ensures { λ r. ⌜ (r .whole ≡ true → Leads run (now (shadow .entry)) (now (table .entry)) (now (piece .entry)) r (now (shadow .exit)) (now (table .exit))) ⌝ }
+{
     let mut run = run;
     let mut at = 0;
     while at < piece.len() {
         let to = part_end(piece, at, run.explain);
         run = feed(run, shadow, table, &piece[at..to], room);
-        if !run.going {
+        if !run.whole {
             return run;
         }
-        at = part_start(piece, at, run.taken);
+        at += run.taken;
     }
     run
 }

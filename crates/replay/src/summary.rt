@@ -1,9 +1,9 @@
 // What is said of a replay as it goes and at its end: lines, answers by number, the first line that was not done, and the verdict.
 use crate::offer::Run;
 use crate::say;
-use crate::tally::Tally;
 use crate::words;
 use rules::Session;
+use tally::Tally;
 
 // EDQUOT, which the kit's list leaves out.
 const OVER_QUOTA: i32 = 122;
@@ -35,7 +35,7 @@ fn outcome(tally: Tally, left: u32) {
         say::text(b"first line not done: ");
         say::number(tally.first);
         say::text(b", answered ");
-        say::status(tally.first_status);
+        say::status(tally.answered);
         say::text(b"\n");
         return;
     }
@@ -105,8 +105,5 @@ pub fn verdict(run: Run) -> u8 {
     by_number(counts);
     let left = unfinished(session);
     outcome(tally, left);
-    if (tally.first == 0) & (left == 0) {
-        return 0;
-    }
-    1
+    tally::verdict(tally, left)
 }

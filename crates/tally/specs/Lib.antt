@@ -1,2 +1,3 @@
--- What a report says in sum.
+-- What a report says in sum, and what its verdict is of.
 pub mod Tally
+pub mod Verdict

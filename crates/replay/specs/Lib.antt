@@ -1,0 +1,2 @@
+-- What replay says of a piece of the trace.
+pub mod Offer

@@ -1,0 +1,35 @@
+-- What replay says of a piece of the trace: where all of it was answered and written, the session, the shadow, the table and the tally are those of
+-- the rules over the piece, however it was cut and whatever room was lent.
+use Prim.Native.Nat.{ℕ, _<_, _≤_}
+use mathlib.Core.Path.{_≡_}
+use mathlib.Core.List.{List}
+use lib.ListN.{length, take}
+use Rattle.rules.specs.declared.Session.{Session}
+use Rattle.rules.specs.declared.Fed.{Fed}
+use Rattle.rules.specs.Feed.{State, run}
+use Rattle.tally.specs.Tally.{with-report}
+use Rattle.replay.specs.declared.offer.Run.{Run}
+
+abbrev pub state-of : Session → List ℕ → List ℕ → State
+state-of session shadow table = record { session = session; shadow = shadow; table = table }
+
+-- what is kept of a feed that was offered so many bytes, and left its report in a room
+pub record Kept (before : Run) (fed : Fed) (offered : ℕ) (room : List ℕ) (r : Run) : Type 0 where
+  pub done : fed .status ≡ 0
+  pub some : 0 < fed .taken
+  pub most : fed .taken ≤ offered
+  pub fits : fed .wrote ≤ length room
+  pub session : r .session ≡ fed .session
+  pub tally : r .tally ≡ with-report (before .tally) (take (fed .wrote) room)
+  pub taken : r .taken ≡ fed .taken
+
+-- the rules over a text lead from one run to another
+pub record Leads (before : Run) (shadow table text : List ℕ) (r : Run) (shadow-after table-after : List ℕ) : Type 0 where
+  pub state : state-of (r .session) shadow-after table-after ≡ run (state-of (before .session) shadow table) text .state
+  pub tally : r .tally ≡ with-report (before .tally) (run (state-of (before .session) shadow table) text .report)
+
+-- of a part that was offered once, some is taken
+pub record Taken (before : Run) (shadow table part : List ℕ) (r : Run) (shadow-after table-after : List ℕ) : Type 0 where
+  pub some : 0 < r .taken
+  pub most : r .taken ≤ length part
+  pub leads : Leads before shadow table (take (r .taken) part) r shadow-after table-after
