@@ -1,13 +1,18 @@
 -- What replay says of a piece of the trace: where all of it was answered and written, the session, the shadow, the table and the tally are those of
 -- the rules over the piece, however it was cut and whatever room was lent.
 use Prim.Native.Nat.{ℕ, _<_, _≤_}
+use mathlib.Core.Bool.{true, false}
 use mathlib.Core.Path.{_≡_}
 use mathlib.Core.List.{List}
 use lib.ListN.{length, take}
+use lib.Dec.{eqb}
 use Rattle.rules.specs.declared.Session.{Session}
 use Rattle.rules.specs.declared.Fed.{Fed}
 use Rattle.rules.specs.Feed.{State, run}
-use Rattle.tally.specs.Tally.{with-report}
+use Rattle.rules.specs.Limits.{too-long}
+use Rattle.rules.specs.Answers.{in-numbers}
+use Rattle.rules.specs.Calls.{unfinished-call}
+use Rattle.tally.specs.Tally.{with-report, verdict}
 use Rattle.replay.specs.declared.offer.Run.{Run}
 
 abbrev pub state-of : Session → List ℕ → List ℕ → State
@@ -33,3 +38,12 @@ pub record Taken (before : Run) (shadow table part : List ℕ) (r : Run) (shadow
   pub some : 0 < r .taken
   pub most : r .taken ≤ length part
   pub leads : Leads before shadow table (take (r .taken) part) r shadow-after table-after
+
+-- the unfinished line's length, or 19 where the session cannot say
+unfoldable pub left : Session → ℕ
+left session = elim (eqb (in-numbers (unfinished-call session) .status) 0) [ true ↦ in-numbers (unfinished-call session) .value | false ↦ too-long ]
+
+-- how a run ends: 0 and 1 are its tally's verdict, and are said only of a run that was written whole
+pub record Ends (run : Run) (r : ℕ) : Type 0 where
+  pub passed : r ≡ 0 → (run .whole ≡ true) × (verdict (run .tally) (left (run .session)) ≡ 0)
+  pub not-passed : r ≡ 1 → (run .whole ≡ true) × (verdict (run .tally) (left (run .session)) ≡ 1)

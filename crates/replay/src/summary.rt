@@ -4,6 +4,8 @@ use crate::say;
 use crate::words;
 use rules::Session;
 use tally::Tally;
+ghost use mathlib.Core.Path.{_≡_};
+ghost use Rattle.replay.specs.Offer.{left, Ends};
 
 // EDQUOT, which the kit's list leaves out.
 const OVER_QUOTA: i32 = 122;
@@ -48,19 +50,28 @@ fn outcome(tally: Tally, left: u32) {
     }
 }
 
-// "An unfinished line is never acted on"; 19 stands for 19 or more.
-fn unfinished(session: Session) -> u32 {
+// The unfinished line's length; 19 stands for 19 or more, and for a session that cannot say, which none here is.
+fn unfinished(session: Session) -> u32
+    ensures { λ r. ⌜ r ≡ left session ⌝ }
+{
     let reply = answers::numbers_of(watcher::unfinished(session));
-    let length = reply.value;
-    if 0 < length {
-        say::text(b"the trace ends in an unfinished line of ");
-        say::count(length as u64, b"byte");
-        if length == 19 {
-            say::text(b" or more");
-        }
-        say::text(b", which was not acted on\n");
+    if reply.status != 0 {
+        return 19;
     }
-    length
+    reply.value
+}
+
+// "An unfinished line is never acted on."
+fn not_acted_on(length: u32) {
+    if length == 0 {
+        return;
+    }
+    say::text(b"the trace ends in an unfinished line of ");
+    say::count(length as u64, b"byte");
+    if length == 19 {
+        say::text(b" or more");
+    }
+    say::text(b", which was not acted on\n");
 }
 
 fn lines(count: u64) {
@@ -89,11 +100,15 @@ fn reached() -> bool {
 }
 
 // 0: every line was done. 1: some line was not, or the last one is unfinished. 2: an error, which has been said.
-pub fn verdict(run: Run) -> u8 {
-    if !run.whole {
+pub fn verdict(run: Run) -> u8
+    ensures { λ r. ⌜ Ends run r ⌝ }
+{
+    let whole = run.whole;
+    if !whole {
         return 2;
     }
-    if !reached() {
+    let kept = reached();
+    if !kept {
         os::fail(b"kinkhost: the report cannot be written");
         return 2;
     }
@@ -104,6 +119,7 @@ pub fn verdict(run: Run) -> u8 {
     say::text(b"\n");
     by_number(counts);
     let left = unfinished(session);
+    not_acted_on(left);
     outcome(tally, left);
     tally::verdict(tally, left)
 }
