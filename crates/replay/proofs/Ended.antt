@@ -16,7 +16,7 @@ use Rattle.rules.proofs.Tests.{if-true, if-false}
 use Rattle.rules.proofs.Calls.{within-is, unfinished-done, lent-true, run-lent}
 use Rattle.tally.specs.Tally.{none, with-report, verdict}
 use Rattle.tally.specs.Verdict.{Passed, judged}
-use Rattle.tally.proofs.Judged.{passed}
+use Rattle.tally.proofs.Judged.{passed, not-passed}
 use Rattle.replay.specs.declared.offer.Run.{Run}
 use Rattle.replay.specs.Offer.{state-of, Leads, left, Ends}
 
@@ -66,3 +66,8 @@ module _ (begun : Run) {shadow table text shadow-after table-after : List ℕ} {
   pub ended-passed : begun .tally ≡ none → fits-lent (begun .session) shadow table ≡ true → Leads begun shadow table text ran shadow-after table-after
       → Ends ran 0 → Passed (state-of (begun .session) shadow table) text
   ended-passed fresh fits leads ends = passed _ text (sym (ended fresh fits leads) ∙ ends .passed refl .1)
+
+  -- and one of 1 is not
+  pub ended-not-passed : begun .tally ≡ none → fits-lent (begun .session) shadow table ≡ true → Leads begun shadow table text ran shadow-after table-after
+      → Ends ran 1 → Passed (state-of (begun .session) shadow table) text → ⊥
+  ended-not-passed fresh fits leads ends = not-passed _ text (sym (ended fresh fits leads) ∙ ends .not-passed refl .1)

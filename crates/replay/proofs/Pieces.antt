@@ -10,7 +10,7 @@ use Rattle.rules.specs.declared.Session.{Session}
 use Rattle.rules.specs.declared.Fed.{Fed}
 use Rattle.rules.specs.Feed.{State, run, run-nil, taken}
 use Rattle.rules.specs.Put.{put}
-use Rattle.rules.specs.Calls.{FedWith, fed-with, fits-lent, feed}
+use Rattle.rules.specs.Calls.{FedWith, fits-lent, feed}
 use Rattle.rules.proofs.Tests.{by-test}
 use Rattle.rules.proofs.Feed.{run-append, run-report, line-feeds}
 use Rattle.rules.proofs.Calls.{feed-done, feed-24}

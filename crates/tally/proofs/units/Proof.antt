@@ -2,7 +2,6 @@
 use mathlib.Core.Path.{sym}
 use Rattle.rules.proofs.Tests.{if-true, if-false, between-true, between-low, between-high}
 use Rattle.tally.specs.Tally.{units}
-use borrow.Author.Needs.{needs}
 use Rattle.tally.proofs.units.Statement.{statement}
 use Rattle.tally.proofs.units.Tie as tie
 

@@ -3,7 +3,6 @@ use mathlib.Core.Path.{sym, _∙_}
 use borrow.Author.Tests.{eq-eqb, ne-eqb}
 use Rattle.rules.proofs.Tests.{if-true, if-false}
 use Rattle.tally.specs.Tally.{verdict}
-use borrow.Author.Needs.{needs}
 use Rattle.tally.proofs.verdict.Statement.{statement}
 use Rattle.tally.proofs.verdict.Tie as tie
 
