@@ -213,14 +213,19 @@ static void look_at_argument(void)
         }
 }
 
-/* A register's bytes in memory that is long enough for whatever the header says. */
-static void holds_reply(const char *what, uint64_t rax, uint64_t status, uint64_t kind, uint64_t value)
+/* Three fields that come in registers, whose bytes go to memory that is long enough for whatever the header says. */
+static void holds_three(const char *what, const struct field *fields, struct raw_pair registers, const uint64_t *numbers)
 {
     unsigned char memory[MEMORY] = { 0 };
-    memcpy(memory, &rax, sizeof rax);
-    holds(what, in_reply[0], memory, status);
-    holds(what, in_reply[1], memory, kind);
-    holds(what, in_reply[2], memory, value);
+    memcpy(memory, &registers, sizeof registers);
+    for (int field = 0; field < 3; field++)
+        holds(what, fields[field], memory, numbers[field]);
+}
+
+static void holds_reply(const char *what, uint64_t rax, uint64_t status, uint64_t kind, uint64_t value)
+{
+    const uint64_t numbers[3] = { status, kind, value };
+    holds_three(what, in_reply, (struct raw_pair){ rax, 0 }, numbers);
 }
 
 static void look_at_reply(void)
@@ -253,11 +258,8 @@ static void look_at_quarantine(void)
 
 static void holds_mapped(const char *what, struct raw_pair pair, uint64_t status, uint64_t region, uint64_t address)
 {
-    unsigned char memory[MEMORY] = { 0 };
-    memcpy(memory, &pair, sizeof pair);
-    holds(what, in_mapped[0], memory, status);
-    holds(what, in_mapped[1], memory, region);
-    holds(what, in_mapped[2], memory, address);
+    const uint64_t numbers[3] = { status, region, address };
+    holds_three(what, in_mapped, pair, numbers);
 }
 
 static void look_at_mapped(void)
