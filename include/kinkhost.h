@@ -14,10 +14,10 @@
  * Every length here counts elements: bytes of a shadow, a piece or a room, numbers of a table.
  *
  * What a caller owes, since no call can see it: each pointer has that many elements behind it (where the length is 0,
- * any pointer will do, also a null one), and the buffers of one call do not overlap. Nothing else. Whatever the
- * numbers, the session and the bytes in the buffers are, scribbled or forged ones too, each call returns and answers
- * as below, and touches nothing but what it was lent. That is proved for the Rattle functions that these are compiled
- * from; the compiler, and the C on your side of the call, are not part of the proof.
+ * a pointer to anything of that type will do, but not a null one), and the buffers of one call do not overlap. Nothing
+ * else. Whatever the numbers, the session and the bytes in the buffers are, scribbled or forged ones too, each call
+ * returns and answers as below, and touches nothing but what it was lent. That is proved for the Rattle functions that
+ * these are compiled from; the compiler, and the C on your side of the call, are not part of the proof.
  *
  * The answers, checked in this order (07 and 08 for releases only, 09 for accesses only). Statuses are decimal.
  *

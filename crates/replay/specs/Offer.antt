@@ -23,7 +23,6 @@ pub record Kept (before : Run) (fed : Fed) (offered : ℕ) (room : List ℕ) (r 
   pub done : fed .status ≡ 0
   pub some : 0 < fed .taken
   pub most : fed .taken ≤ offered
-  pub fits : fed .wrote ≤ length room
   pub session : r .session ≡ fed .session
   pub tally : r .tally ≡ with-report (before .tally) (take (fed .wrote) room)
   pub taken : r .taken ≡ fed .taken

@@ -33,7 +33,6 @@ returns-6 c whole =
       done = search needs;
       some = omega arith;
       most = omega arith;
-      fits = omega arith;
       session = refl;
       tally = c .with-report .ensures ∙ ap (λ n. with-report (start .run .tally) (take n (now (start .room)))) from-0;
       taken = refl;
