@@ -9,15 +9,16 @@
  *   - a shadow of S bytes, one a granule: S is 8 to 65,536;
  *   - a table of rows, four numbers each: start granule, size in bytes, state (0 empty, 1 live, 2 quarantined), turn.
  *     1 to 1,024 rows, so 4 to 4,096 numbers;
- *   - a session, passed by value and handed back by value.
+ *   - a session, passed by value and handed back by value; kinkhost_feed_in_place is lent it, and changes it in place.
  *
  * Every length here counts elements: bytes of a shadow, a piece or a room, numbers of a table.
  *
  * What a caller owes, since no call can see it: each pointer has that many elements behind it (where the length is 0,
- * a pointer to anything of that type will do, but not a null one), and the buffers of one call do not overlap. Nothing
- * else. Whatever the numbers, the session and the bytes in the buffers are, scribbled or forged ones too, each call
- * returns and answers as below, and touches nothing but what it was lent. That is proved for the Rattle functions that
- * these are compiled from; the compiler, and the C on your side of the call, are not part of the proof.
+ * a pointer to anything of that type will do, but not a null one), a pointer to a session has a session behind it, and
+ * what one call is lent does not overlap. Nothing else. Whatever the numbers, the session and the bytes in the buffers
+ * are, scribbled or forged ones too, each call returns and answers as below, and touches nothing but what it was lent.
+ * That is proved for the Rattle functions that these are compiled from; the compiler, and the C on your side of the
+ * call, are not part of the proof.
  *
  * The answers, checked in this order (07 and 08 for releases only, 09 for accesses only). Statuses are decimal.
  *
@@ -82,6 +83,13 @@ struct kinkhost_fed {
     size_t wrote;
 };
 
+/* What a feed of a lent session hands back: a kinkhost_fed without the session, which lies where it was lent. */
+struct kinkhost_counts {
+    uint8_t status;
+    size_t taken;
+    size_t wrote;
+};
+
 /* The regions of the two published address maps, in `region` below. */
 enum {
     KINKHOST_NOWHERE = 0,
@@ -135,6 +143,13 @@ struct kinkhost_reply kinkhost_access(struct kinkhost_session session, const uin
 struct kinkhost_fed kinkhost_feed(struct kinkhost_session session, uint8_t *shadow, size_t shadow_length,
                                   uint32_t *table, size_t table_length, const uint8_t *piece, size_t piece_length,
                                   uint8_t *room, size_t room_length);
+
+/* The same for a caller that keeps one session: the session is lent and changed in place. Its fields are then those of
+ * the session that kinkhost_feed hands back, and the counts, the shadow, the table and the room are kinkhost_feed's,
+ * for every input; on 24 the session stays as it was. */
+struct kinkhost_counts kinkhost_feed_in_place(struct kinkhost_session *session, uint8_t *shadow, size_t shadow_length,
+                                              uint32_t *table, size_t table_length, const uint8_t *piece,
+                                              size_t piece_length, uint8_t *room, size_t room_length);
 
 /* The length of the unfinished line, 0 to 19, where 19 stands for 19 or more: 00 with the length, or 24 where a field
  * of the session is outside its limits. */

@@ -58,17 +58,16 @@ static enum outcome open_pool(struct pool *pool)
 }
 
 /* Feeds one piece. Each call is offered what the one before it did not take; the room holds an answer at least, so that
- * each call takes a byte at least and this ends. */
+ * each call takes a byte at least and this ends. kinkhost_feed is the same with the session by value. */
 static enum outcome feed(struct pool *pool, const uint8_t *piece, size_t length)
 {
     enum outcome outcome = DONE;
     while (length > 0) {
         uint8_t room[ROOM];
-        struct kinkhost_fed fed = kinkhost_feed(pool->session, pool->shadow, GRANULES, pool->table, 4 * ROWS, piece,
-                                                length, room, sizeof room);
+        struct kinkhost_counts fed = kinkhost_feed_in_place(&pool->session, pool->shadow, GRANULES, pool->table,
+                                                            4 * ROWS, piece, length, room, sizeof room);
         if (fed.status != 0)
             return refused("a piece", fed.status);
-        pool->session = fed.session;
         piece += fed.taken;
         length -= fed.taken;
         for (size_t answer = 0; answer < fed.wrote; answer += ANSWER)

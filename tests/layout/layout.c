@@ -7,9 +7,9 @@
 
 #include "kinkhost.h"
 
-/* A session as bytes: class MEMORY like the session itself, so it is passed in the same place. */
+/* A session as bytes: class MEMORY and aligned like the session itself, so it is passed in the same place. */
 struct raw_session {
-    unsigned char bytes[sizeof(struct kinkhost_session)];
+    _Alignas(struct kinkhost_session) unsigned char bytes[sizeof(struct kinkhost_session)];
 };
 
 struct raw_pair {
@@ -19,6 +19,8 @@ struct raw_pair {
 void raw_open(void *, uint8_t *, size_t, uint32_t *, size_t, size_t, uint32_t) __asm__("kinkhost_open");
 void raw_feed(void *, struct raw_session, uint8_t *, size_t, uint32_t *, size_t, const uint8_t *, size_t, uint8_t *,
               size_t) __asm__("kinkhost_feed");
+void raw_feed_in_place(void *, void *, uint8_t *, size_t, uint32_t *, size_t, const uint8_t *, size_t, uint8_t *,
+                       size_t) __asm__("kinkhost_feed_in_place");
 uint64_t raw_grant(struct raw_session, uint8_t *, size_t, uint32_t *, size_t, uint32_t) __asm__("kinkhost_grant");
 uint64_t raw_release(struct raw_session, uint8_t *, size_t, uint32_t *, size_t, uint32_t) __asm__("kinkhost_release");
 uint64_t raw_access(struct raw_session, const uint8_t *, size_t, const uint32_t *, size_t, uint32_t,
@@ -27,8 +29,9 @@ uint64_t raw_unfinished(struct raw_session) __asm__("kinkhost_unfinished");
 struct raw_pair raw_map32(uint64_t) __asm__("kinkhost_map32");
 struct raw_pair raw_map64(uint64_t) __asm__("kinkhost_map64");
 
-/* Values that no two fields share. Redzone 256 is the only one that each change of a single byte breaks. */
-enum { GRANULES = 24, ROWS = 5, REDZONE = 256, MEMORY = 256, FIELDS = 6, ANSWER = 13 };
+/* Values that no two fields share. Redzone 256 is the only one that each change of a single byte breaks. A session
+ * lent in place is at LENT of its memory. */
+enum { GRANULES = 24, ROWS = 5, REDZONE = 256, MEMORY = 256, LENT = 96, FIELDS = 6, ANSWER = 13 };
 #define QUARANTINE 0xa1b2c3d4u
 
 struct field {
@@ -45,6 +48,8 @@ static const struct field in_session[FIELDS] = {
 static const struct field in_opened[] = { FIELD(kinkhost_opened, session), FIELD(kinkhost_opened, status) };
 static const struct field in_fed[] = { FIELD(kinkhost_fed, session), FIELD(kinkhost_fed, status),
                                        FIELD(kinkhost_fed, taken), FIELD(kinkhost_fed, wrote) };
+static const struct field in_counts[] = { FIELD(kinkhost_counts, status), FIELD(kinkhost_counts, taken),
+                                          FIELD(kinkhost_counts, wrote) };
 static const struct field in_reply[] = { FIELD(kinkhost_reply, status), FIELD(kinkhost_reply, kind),
                                          FIELD(kinkhost_reply, value) };
 static const struct field in_mapped[] = { FIELD(kinkhost_mapped, status), FIELD(kinkhost_mapped, region),
@@ -89,13 +94,19 @@ static void holds_session(const char *what, const unsigned char *base, uint64_t 
     holds_bytes(what, in_session[5], base, places);
 }
 
-/* A byte that keeps two patterns was not written. The last one written is the last of the last field, and the struct
- * ends at the next multiple of 8, the alignment of each struct here: neither side has a field behind the other's. */
+/* A byte that keeps two patterns was not written. */
+static int unwritten(unsigned char memory[2][MEMORY], size_t i)
+{
+    return memory[0][i] == 0x5a && memory[1][i] == 0xa5;
+}
+
+/* The last byte written is the last of the last field, and the struct ends at the next multiple of 8, the alignment of
+ * each struct here: neither side has a field behind the other's. */
 static void ends_at(const char *what, struct field last, size_t size, unsigned char memory[2][MEMORY])
 {
     size_t end = 0;
     for (size_t i = 0; i < MEMORY; i++)
-        if (memory[0][i] != 0x5a || memory[1][i] != 0xa5)
+        if (!unwritten(memory, i))
             end = i + 1;
     fact(end == last.offset + last.width, what, last.name, end);
     fact((end + 7) / 8 * 8 == size, what, "its size", end);
@@ -155,11 +166,55 @@ static void look_at_fed(void)
     ends_at("fed", in_fed[3], sizeof(struct kinkhost_fed), memory);
 }
 
-/* 24 hands the session back: a different value in each byte of it must come back in each byte of a field. */
+/* Two copies of a session, to be lent amid two patterns. */
+static void lay_amid_patterns(struct raw_session session, unsigned char lent[2][MEMORY])
+{
+    fill(lent);
+    for (int i = 0; i < 2; i++)
+        memcpy(lent[i] + LENT, session.bytes, sizeof session.bytes);
+}
+
+/* Feeds both in place: the counts are these, and nothing outside the sessions is written. */
+static void feed_in_place(const char *what, unsigned char lent[2][MEMORY], const char *text, const uint64_t *numbers)
+{
+    unsigned char memory[2][MEMORY];
+    size_t kept = 0;
+    fill(memory);
+    for (int i = 0; i < 2; i++) {
+        raw_feed_in_place(memory[i], lent[i] + LENT, shadow, GRANULES, table, 4 * ROWS, (const uint8_t *)text,
+                          strlen(text), room, sizeof room);
+        for (int field = 0; field < 3; field++)
+            holds(what, in_counts[field], memory[i], numbers[field]);
+    }
+    ends_at(what, in_counts[2], sizeof(struct kinkhost_counts), memory);
+    while (kept < MEMORY && (kept - LENT < sizeof(struct kinkhost_session) || unwritten(lent, kept)))
+        kept++;
+    fact(kept == MEMORY, what, "written outside the session", kept);
+}
+
+/* A feed that leaves an unfinished line, with a different value in each place, and then one that ends it. */
+static void look_at_in_place(void)
+{
+    static const char *const text[2] = { "030000000000000000\nabcdefghijklmnopqr", "\n" };
+    static const char *const line[2] = { "abcdefghijklmnopqr", "" };
+    _Alignas(struct raw_session) unsigned char lent[2][MEMORY];
+    lay_amid_patterns(laid_out(2), lent);
+    for (int feed = 0; feed < 2; feed++) {
+        const uint64_t numbers[3] = { 0, strlen(text[feed]), ANSWER };
+        feed_in_place("counts", lent, text[feed], numbers);
+        for (int i = 0; i < 2; i++)
+            holds_session("in place", lent[i] + LENT, 2, line[feed]);
+    }
+}
+
+/* 24 hands the session back, or leaves it as it was lent: a different value in each byte of it must be found again in
+ * each byte of a field. */
 static void look_at_handed_back(void)
 {
+    static const uint64_t numbers[3] = { 24, 0, 0 };
     struct raw_session session;
     unsigned char memory[2][MEMORY];
+    _Alignas(struct raw_session) unsigned char lent[2][MEMORY];
     for (size_t i = 0; i < sizeof session.bytes; i++)
         session.bytes[i] = (unsigned char)(i + 1);
     fill(memory);
@@ -172,19 +227,31 @@ static void look_at_handed_back(void)
         holds("handed back", in_fed[2], memory[i], 0);
         holds("handed back", in_fed[3], memory[i], 0);
     }
+    lay_amid_patterns(session, lent);
+    feed_in_place("counts on 24", lent, "030000000000000000\n", numbers);
+    for (int i = 0; i < 2; i++)
+        for (int field = 0; field < FIELDS; field++)
+            holds_bytes("in place on 24", in_session[field], lent[i] + LENT, session.bytes + in_session[field].offset);
 }
 
 /* The status that each call with a lent session gives, over buffers on which no call changes anything: a piece of no
- * bytes, a grant for which redzone 256 leaves no start, a release of 0, an access of 0 bytes. */
-static unsigned status_of(int call, struct raw_session session, unsigned char *fed)
+ * bytes, the same in place, a grant for which redzone 256 leaves no start, a release of 0, an access of 0 bytes. The
+ * first two also give the session after the call. */
+static unsigned status_of(int call, struct raw_session session, struct raw_session *after)
 {
+    unsigned char memory[MEMORY];
     switch (call) {
     case 0:
-        raw_feed(fed, session, shadow, GRANULES, table, 4 * ROWS, room, 0, room, 0);
-        return fed[in_fed[1].offset];
+        raw_feed(memory, session, shadow, GRANULES, table, 4 * ROWS, room, 0, room, 0);
+        memcpy(after->bytes, memory + in_fed[0].offset, sizeof after->bytes);
+        return memory[in_fed[1].offset];
     case 1:
-        return raw_grant(session, shadow, GRANULES, table, 4 * ROWS, 1) >> (8 * in_reply[0].offset) & 0xff;
+        *after = session;
+        raw_feed_in_place(memory, after->bytes, shadow, GRANULES, table, 4 * ROWS, room, 0, room, 0);
+        return memory[in_counts[0].offset];
     case 2:
+        return raw_grant(session, shadow, GRANULES, table, 4 * ROWS, 1) >> (8 * in_reply[0].offset) & 0xff;
+    case 3:
         return raw_release(session, shadow, GRANULES, table, 4 * ROWS, 0) >> (8 * in_reply[0].offset) & 0xff;
     default:
         return raw_access(session, shadow, GRANULES, table, 4 * ROWS, 0, 0) >> (8 * in_reply[0].offset) & 0xff;
@@ -195,11 +262,10 @@ static unsigned status_of(int call, struct raw_session session, unsigned char *f
  * number and comes back as it was lent; one between fields means nothing. */
 static void look_at_argument(void)
 {
-    static const unsigned good[4] = { 0, 6, 0, 0 };
-    for (int call = 0; call < 4; call++)
+    static const unsigned good[5] = { 0, 0, 6, 0, 0 };
+    for (int call = 0; call < 5; call++)
         for (size_t i = 0; i <= sizeof(struct kinkhost_session); i++) {
-            struct raw_session session = laid_out(REDZONE);
-            unsigned char fed[MEMORY];
+            struct raw_session session = laid_out(REDZONE), after;
             struct field owner = { "nothing changed, or between fields", i, 0 };
             if (i < sizeof session.bytes)
                 session.bytes[i] ^= 0x80;
@@ -207,9 +273,9 @@ static void look_at_argument(void)
                 if (i - in_session[field].offset < in_session[field].width)
                     owner = in_session[field];
             int any = owner.width == 0 || owner.offset == in_session[3].offset;
-            fact(status_of(call, session, fed) == (any ? good[call] : 24), "lent", owner.name, i);
-            if (call == 0)
-                holds_bytes("lent", owner, fed + in_fed[0].offset, session.bytes + owner.offset);
+            fact(status_of(call, session, &after) == (any ? good[call] : 24), "lent", owner.name, i);
+            if (call < 2)
+                holds_bytes("lent", owner, after.bytes, session.bytes + owner.offset);
         }
 }
 
@@ -279,9 +345,10 @@ static void knows_every_field(void)
     struct kinkhost_session session = { 0, 0, 0, 0, 0, { 0 } };
     struct kinkhost_opened opened = { session, 0 };
     struct kinkhost_fed fed = { session, 0, 0, 0 };
+    struct kinkhost_counts counts = { 0, 0, 0 };
     struct kinkhost_reply reply = { 0, 0, 0 };
     struct kinkhost_mapped mapped = { 0, 0, 0 };
-    (void)opened, (void)fed, (void)reply, (void)mapped;
+    (void)opened, (void)fed, (void)counts, (void)reply, (void)mapped;
 }
 
 static void list(const char *name, size_t size, const struct field *fields, size_t count)
@@ -298,14 +365,16 @@ int main(void)
 {
     /* In this order: each step calls only with what the steps before it found right, so that a wrong header ends in
      * facts that are wrong and not in a crash. */
-    void (*const steps[])(void) = { knows_every_field, look_at_opened,   look_at_reply,       look_at_mapped,
-                                    look_at_fed,       look_at_argument, look_at_handed_back, look_at_quarantine };
+    void (*const steps[])(void) = { knows_every_field, look_at_opened,      look_at_reply,
+                                    look_at_mapped,    look_at_fed,         look_at_in_place,
+                                    look_at_argument,  look_at_handed_back, look_at_quarantine };
     for (size_t i = 0; i < sizeof steps / sizeof *steps && wrong == 0; i++)
         steps[i]();
     if (wrong == 0) {
         LIST(kinkhost_session, in_session);
         LIST(kinkhost_opened, in_opened);
         LIST(kinkhost_fed, in_fed);
+        LIST(kinkhost_counts, in_counts);
         LIST(kinkhost_reply, in_reply);
         LIST(kinkhost_mapped, in_mapped);
     }

@@ -1,5 +1,6 @@
 // The C interface: the public calls and the two maps under C names, an answer as its numbers, since an enum does not cross to
 // C. `include/kinkhost.h` declares them.
+use rules::Counts;
 use rules::Fed;
 use rules::Mapped;
 use rules::Opened;
@@ -8,6 +9,7 @@ use rules::Session;
 ghost use mathlib.Core.Path.{_≡_};
 ghost use Rattle.rules.specs.Maps.{map32, map64, map-call};
 ghost use Rattle.watcher.specs.Calls.{Opens, Feeds};
+ghost use Rattle.lent.specs.Calls.{FeedsInPlace};
 ghost use Rattle.kinkhost.specs.Calls.{Grants, Releases, Accesses, Asks};
 
 #[no_mangle]
@@ -70,6 +72,19 @@ pub extern "C" fn kinkhost_feed(
     ensures { λ r. ⌜ Feeds session (now (shadow .entry)) (now (table .entry)) (now (piece .entry)) (now (room .entry)) r (now (shadow .exit)) (now (table .exit)) (now (room .exit)) ⌝ }
 {
     watcher::feed(session, shadow, table, piece, room)
+}
+
+#[no_mangle]
+pub extern "C" fn kinkhost_feed_in_place(
+    session: &mut Session,
+    shadow: &mut [u8],
+    table: &mut [u32],
+    piece: &[u8],
+    room: &mut [u8],
+) -> Counts
+    ensures { λ r. ⌜ FeedsInPlace (now (session .entry)) (now (shadow .entry)) (now (table .entry)) (now (piece .entry)) (now (room .entry)) r (now (session .exit)) (now (shadow .exit)) (now (table .exit)) (now (room .exit)) ⌝ }
+{
+    lent::feed_in_place(session, shadow, table, piece, room)
 }
 
 #[no_mangle]

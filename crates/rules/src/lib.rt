@@ -95,6 +95,14 @@ pub struct Fed {
     pub wrote: usize,
 }
 
+// What a feed of a lent session hands back: a `Fed` without the session, which lies where it was lent.
+#[repr(C)]
+pub struct Counts {
+    pub status: u8,
+    pub taken: usize,
+    pub wrote: usize,
+}
+
 // The regions of the published address maps.
 pub enum Region {
     Nowhere,
