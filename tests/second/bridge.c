@@ -2,7 +2,8 @@
  *
  * All numbers are little-endian. A request is
  *
- *     what u8 (1 open, 2 grant, 3 release, 4 access, 5 feed, 6 unfinished, 7 map32, 8 map64, 9 replay)
+ *     what u8 (1 open, 2 grant, 3 release, 4 access, 5 feed, 6 unfinished, 7 map32, 8 map64, 9 replay,
+ *     10 feed in place, 11 replay in place)
  *     session: granules u64, rows u64, redzone u64, quarantine u32, unfinished u64, line 18 bytes
  *     two numbers u64: redzone, quarantine (open); size (grant); address (release, maps); address, length (access)
  *     shadow: length u32, bytes; table: length u32, u32 each; piece: length u32, bytes; room: length u32, bytes
@@ -10,16 +11,17 @@
  *
  * and an answer is
  *
- *     what u8, touched u8 (a bit for each buffer whose canary was changed: shadow, table, piece, room), status u8,
- *     kind or region u8, value u64, session, taken u64, wrote u64, shadow, table, piece and room as above,
+ *     what u8, touched u8 (a bit for each buffer whose canary was changed: shadow, table, piece, room, session),
+ *     status u8, kind or region u8, value u64, session, taken u64, wrote u64, shadow, table, piece and room as above,
  *     steps: count u32, then for each the status u8, taken u64 and wrote u64
  *
  * A feed is one step over the whole piece and room. A replay feeds step by step: each is offered at most its piece
- * length of what was not taken yet, and the next part of the room, of its room length.
+ * length of what was not taken yet, and the next part of the room, of its room length. In place, each step is lent the
+ * one session, which stays where it is; the answer's session is what then lies there.
  *
- * Every buffer is lent so that it ends where an unreadable page begins and starts after canary bytes, so that a touch
- * outside the lent part ends the bridge by a signal or is told in `touched`. Ends with 0 at the end of input, with 3
- * on a broken request or a failing system call. */
+ * Every buffer, the session too, is lent so that it ends where an unreadable page begins and starts after canary
+ * bytes, so that a touch outside the lent part ends the bridge by a signal or is told in `touched`. Ends with 0 at the
+ * end of input, with 3 on a broken request or a failing system call. */
 #define _DEFAULT_SOURCE
 #include <stdio.h>
 #include <stdlib.h>
@@ -29,9 +31,9 @@
 
 #include "kinkhost.h"
 
-enum { OPEN = 1, GRANT, RELEASE, ACCESS, FEED, UNFINISHED, MAP32, MAP64, REPLAY };
+enum { OPEN = 1, GRANT, RELEASE, ACCESS, FEED, UNFINISHED, MAP32, MAP64, REPLAY, FEED_IN_PLACE, REPLAY_IN_PLACE };
 
-enum { SHADOW, TABLE, PIECE, ROOM, BUFFERS };
+enum { SHADOW, TABLE, PIECE, ROOM, SESSION, BUFFERS };
 
 enum { CANARIES = 64, CAPACITY = 1 << 22, TEXT_CAPACITY = 1 << 24, STEPS = 1 << 20 };
 
@@ -50,10 +52,10 @@ struct step {
     uint64_t wrote;
 };
 
-/* A call and then its outcome. */
+/* A call and then its outcome; its session is the lent one. */
 struct call {
     uint8_t what;
-    struct kinkhost_session session;
+    struct kinkhost_session *session;
     uint64_t numbers[2];
     uint32_t table_length;
     uint32_t text_length;
@@ -175,14 +177,19 @@ static uint8_t touched(void)
     return found;
 }
 
-static void get_session(struct kinkhost_session *session)
+/* The lent session. Its size is a multiple of its alignment, so that it can end where a page does. No promise is made
+ * for the padding between its fields, which is scribbled. */
+static struct kinkhost_session *get_session(void)
 {
+    struct kinkhost_session *session = (struct kinkhost_session *)(void *)lend(SESSION, sizeof *session);
+    memset(session, 0xa6, sizeof *session);
     session->granules = get_number(8);
     session->rows = get_number(8);
     session->redzone = get_number(8);
     session->quarantine = (uint32_t)get_number(4);
     session->unfinished = get_number(8);
     get(session->line, sizeof session->line);
+    return session;
 }
 
 static void put_session(const struct kinkhost_session *session)
@@ -197,7 +204,7 @@ static void put_session(const struct kinkhost_session *session)
 
 static void get_call(struct call *call)
 {
-    get_session(&call->session);
+    call->session = get_session();
     call->numbers[0] = get_number(8);
     call->numbers[1] = get_number(8);
     uint32_t shadow_length = get_length(CAPACITY);
@@ -231,7 +238,7 @@ static void put_outcome(const struct call *call)
     put_number(call->status, 1);
     put_number(call->kind, 1);
     put_number(call->value, 8);
-    put_session(&call->session);
+    put_session(call->session);
     put_number(call->taken, 8);
     put_number(call->wrote, 8);
     put_number(guards[SHADOW].bytes, 4);
@@ -256,24 +263,33 @@ static void put_outcome(const struct call *call)
 }
 
 /* One feed over copies of a part of the text and of the rooms; what comes back is copied over them. */
-static struct kinkhost_fed feed(struct call *call, uint8_t *piece, size_t piece_length, uint8_t *room,
-                                size_t room_length)
+static struct kinkhost_counts feed(struct call *call, uint8_t *piece, size_t piece_length, uint8_t *room,
+                                   size_t room_length)
 {
+    uint8_t *shadow = guards[SHADOW].lent;
+    size_t shadow_length = guards[SHADOW].bytes;
+    uint32_t *table = (uint32_t *)(void *)guards[TABLE].lent;
+    struct kinkhost_counts counts;
     uint8_t *lent_piece = lend(PIECE, piece_length);
     uint8_t *lent_room = lend(ROOM, room_length);
     memcpy(lent_piece, piece, piece_length);
     memcpy(lent_room, room, room_length);
-    struct kinkhost_fed fed =
-        kinkhost_feed(call->session, guards[SHADOW].lent, guards[SHADOW].bytes, (uint32_t *)(void *)guards[TABLE].lent,
-                      call->table_length, lent_piece, piece_length, lent_room, room_length);
+    if (call->what == FEED_IN_PLACE || call->what == REPLAY_IN_PLACE) {
+        counts = kinkhost_feed_in_place(call->session, shadow, shadow_length, table, call->table_length, lent_piece,
+                                        piece_length, lent_room, room_length);
+    } else {
+        struct kinkhost_fed fed = kinkhost_feed(*call->session, shadow, shadow_length, table, call->table_length,
+                                                lent_piece, piece_length, lent_room, room_length);
+        *call->session = fed.session;
+        counts = (struct kinkhost_counts){fed.status, fed.taken, fed.wrote};
+    }
     call->touched |= touched();
     memcpy(piece, lent_piece, piece_length);
     memcpy(room, lent_room, room_length);
-    call->session = fed.session;
-    call->status = fed.status;
-    call->taken += fed.taken;
-    call->wrote += fed.wrote;
-    return fed;
+    call->status = counts.status;
+    call->taken += counts.taken;
+    call->wrote += counts.wrote;
+    return counts;
 }
 
 static void replay(struct call *call)
@@ -289,10 +305,10 @@ static void replay(struct call *call)
         }
         size_t left = call->text_length - call->taken;
         size_t piece = step->piece < left ? step->piece : left;
-        struct kinkhost_fed fed = feed(call, text + call->taken, piece, rooms + room_at, step->room);
-        step->status = fed.status;
-        step->taken = fed.taken;
-        step->wrote = fed.wrote;
+        struct kinkhost_counts counts = feed(call, text + call->taken, piece, rooms + room_at, step->room);
+        step->status = counts.status;
+        step->taken = counts.taken;
+        step->wrote = counts.wrote;
         room_at += step->room;
     }
 }
@@ -316,7 +332,7 @@ static void open_session(struct call *call)
     struct kinkhost_opened opened =
         kinkhost_open(guards[SHADOW].lent, guards[SHADOW].bytes, (uint32_t *)(void *)guards[TABLE].lent,
                       call->table_length, call->numbers[0], (uint32_t)call->numbers[1]);
-    call->session = opened.session;
+    *call->session = opened.session;
     call->status = opened.status;
 }
 
@@ -329,11 +345,11 @@ static void direct(struct call *call)
     uint32_t first = (uint32_t)call->numbers[0];
     uint32_t second = (uint32_t)call->numbers[1];
     if (call->what == GRANT) {
-        set_reply(call, kinkhost_grant(call->session, shadow, shadow_length, table, table_length, first));
+        set_reply(call, kinkhost_grant(*call->session, shadow, shadow_length, table, table_length, first));
     } else if (call->what == RELEASE) {
-        set_reply(call, kinkhost_release(call->session, shadow, shadow_length, table, table_length, first));
+        set_reply(call, kinkhost_release(*call->session, shadow, shadow_length, table, table_length, first));
     } else {
-        set_reply(call, kinkhost_access(call->session, shadow, shadow_length, table, table_length, first, second));
+        set_reply(call, kinkhost_access(*call->session, shadow, shadow_length, table, table_length, first, second));
     }
 }
 
@@ -349,10 +365,11 @@ static void make(struct call *call)
         direct(call);
         break;
     case FEED:
+    case FEED_IN_PLACE:
         feed(call, text, call->text_length, rooms, call->rooms_length);
         break;
     case UNFINISHED:
-        set_reply(call, kinkhost_unfinished(call->session));
+        set_reply(call, kinkhost_unfinished(*call->session));
         break;
     case MAP32:
         set_mapped(call, kinkhost_map32(call->numbers[0]));
@@ -361,6 +378,7 @@ static void make(struct call *call)
         set_mapped(call, kinkhost_map64(call->numbers[0]));
         break;
     case REPLAY:
+    case REPLAY_IN_PLACE:
         replay(call);
         break;
     default:

@@ -17,9 +17,11 @@ pub enum What {
     Map32,
     Map64,
     Replay,
+    FeedInPlace,
+    ReplayInPlace,
 }
 
-pub const NAMES: [&str; 10] = [
+pub const NAMES: [&str; 12] = [
     "",
     "open",
     "grant",
@@ -30,11 +32,20 @@ pub const NAMES: [&str; 10] = [
     "map32",
     "map64",
     "replay",
+    "feed in place",
+    "replay in place",
 ];
+
+/// The calls whose session is lent.
+pub const IN_PLACE: [What; 2] = [What::FeedInPlace, What::ReplayInPlace];
 
 impl What {
     pub fn name(self) -> &'static str {
         NAMES[self as usize]
+    }
+
+    pub fn is_in_place(self) -> bool {
+        IN_PLACE.contains(&self)
     }
 }
 
@@ -54,6 +65,7 @@ pub struct Stepped {
 }
 
 /// A replay feeds its piece by steps, its room being theirs one after the other; the other calls have no steps.
+#[derive(Clone)]
 pub struct Call {
     pub what: What,
     pub session: Session,
@@ -66,7 +78,7 @@ pub struct Call {
 }
 
 pub struct Outcome {
-    /// A bit for each buffer that was written to before its lent part: shadow, table, piece, room.
+    /// A bit for each buffer that was written to before its lent part: shadow, table, piece, room, session.
     pub touched: u8,
     pub status: u8,
     pub kind: u8,
@@ -99,6 +111,19 @@ impl Call {
         call
     }
 
+    /// The same feed or replay with the session lent; the other calls have no such form.
+    pub fn in_place(&self) -> Option<Call> {
+        let what = match self.what {
+            What::Feed => What::FeedInPlace,
+            What::Replay => What::ReplayInPlace,
+            _ => return None,
+        };
+        Some(Call {
+            what,
+            ..self.clone()
+        })
+    }
+
     /// The outcome by the paper's rules, as this program has them.
     pub fn outcome(&self, faults: Faults) -> Outcome {
         let mut outcome = self.untouched();
@@ -126,10 +151,10 @@ impl Call {
             What::Unfinished => outcome.set_reply(session.unfinished(faults)),
             What::Map32 => outcome.set_mapped(maps::BITS_32.of(self.numbers[0], faults)),
             What::Map64 => outcome.set_mapped(maps::BITS_64.of(self.numbers[0], faults)),
-            What::Feed => {
-                outcome.feed(self.piece.len(), 0..self.room.len(), faults);
+            What::Feed | What::FeedInPlace => {
+                outcome.feed(self.what, self.piece.len(), 0..self.room.len(), faults);
             }
-            What::Replay => outcome.replay(&self.steps, faults),
+            What::Replay | What::ReplayInPlace => outcome.replay(self.what, &self.steps, faults),
         }
         outcome
     }
@@ -165,11 +190,22 @@ impl Outcome {
     }
 
     /// One feed of at most so many bytes of what was not taken, with a part of the room.
-    fn feed(&mut self, piece: usize, room: std::ops::Range<usize>, faults: Faults) -> Stepped {
+    fn feed(
+        &mut self,
+        what: What,
+        piece: usize,
+        room: std::ops::Range<usize>,
+        faults: Faults,
+    ) -> Stepped {
+        let feed = if what.is_in_place() {
+            frames::feed_in_place
+        } else {
+            frames::feed
+        };
         let at = self.taken as usize;
         let offered = &self.piece[at..self.piece.len().min(at + piece)];
         let room = &mut self.room[room];
-        let fed = frames::feed(&mut self.session, &mut self.pool, offered, room, faults);
+        let fed = feed(&mut self.session, &mut self.pool, offered, room, faults);
         self.status = fed.status;
         self.taken += fed.taken as u64;
         self.wrote += fed.wrote as u64;
@@ -180,11 +216,11 @@ impl Outcome {
         }
     }
 
-    fn replay(&mut self, steps: &[Step], faults: Faults) {
+    fn replay(&mut self, what: What, steps: &[Step], faults: Faults) {
         let mut from = 0;
         for step in steps {
             let past = from + step.room as usize;
-            let stepped = self.feed(step.piece as usize, from..past, faults);
+            let stepped = self.feed(what, step.piece as usize, from..past, faults);
             self.steps.push(stepped);
             from = past;
         }

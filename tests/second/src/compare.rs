@@ -80,8 +80,17 @@ impl Comparison {
         self.tally.lines < self.settings.lines || self.tally.scribbled < self.settings.calls
     }
 
-    /// Makes a call on both sides; this side works while the other does.
+    /// Makes a call on both sides, and a feed or a replay in place too.
     pub fn check(&mut self, call: &Call) -> Result<Outcome, Failure> {
+        let own = self.check_once(call)?;
+        if let Some(in_place) = call.in_place() {
+            self.check_once(&in_place)?;
+        }
+        Ok(own)
+    }
+
+    /// Makes a call on both sides; this side works while the other does.
+    pub fn check_once(&mut self, call: &Call) -> Result<Outcome, Failure> {
         let sent = self.bridge.send(call);
         let own = call.outcome(self.settings.faults);
         let received = sent.and_then(|()| self.bridge.receive(call));

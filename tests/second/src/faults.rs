@@ -32,9 +32,13 @@ pub enum Fault {
     PlaceBeforeRow,
     AllLiveTurnsKept,
     RemainderForgotten,
+    UnfinishedNotStored,
+    LineNotStored,
+    InPlaceCountsSwapped,
+    ClosedInPlace,
 }
 
-const NAMED: [(&str, Fault); 30] = [
+const NAMED: [(&str, Fault); 34] = [
     ("first-granule", Fault::FirstGranule),
     ("unsigned-shadow", Fault::UnsignedShadow),
     ("wrapping-sum", Fault::WrappingSum),
@@ -65,6 +69,10 @@ const NAMED: [(&str, Fault); 30] = [
     ("place-before-row", Fault::PlaceBeforeRow),
     ("all-live-turns-kept", Fault::AllLiveTurnsKept),
     ("remainder-forgotten", Fault::RemainderForgotten),
+    ("unfinished-not-stored", Fault::UnfinishedNotStored),
+    ("line-not-stored", Fault::LineNotStored),
+    ("in-place-counts-swapped", Fault::InPlaceCountsSwapped),
+    ("closed-in-place", Fault::ClosedInPlace),
 ];
 
 /// At most one fault, passed along to every rule; none in an honest run.

@@ -105,3 +105,28 @@ pub fn feed(
     }
     fed
 }
+
+/// "Takes the session record lent and changes it in place; it answers as the by-value call does."
+pub fn feed_in_place(
+    session: &mut Session,
+    pool: &mut Pool,
+    piece: &[u8],
+    room: &mut [u8],
+    faults: Faults,
+) -> Fed {
+    let lent = *session;
+    let mut fed = feed(session, pool, piece, room, faults);
+    if faults.has(Fault::UnfinishedNotStored) {
+        session.unfinished = lent.unfinished;
+    }
+    if faults.has(Fault::LineNotStored) {
+        session.line = lent.line;
+    }
+    if faults.has(Fault::InPlaceCountsSwapped) {
+        std::mem::swap(&mut fed.taken, &mut fed.wrote);
+    }
+    if faults.has(Fault::ClosedInPlace) && fed.status == 24 {
+        *session = Session::CLOSED;
+    }
+    fed
+}

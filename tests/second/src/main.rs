@@ -13,7 +13,8 @@
 //     second faults                                              the names that --fault knows, one a line
 //
 // A comparison prints its seed first, then what it compared. Statuses: 0 all agreed; 1 a difference (told on standard
-// error), or an answer of the paper's table that was never seen; 2 wrong usage, a bridge that failed, lost output.
+// error), or an answer of the paper's table, or of an in-place call, that was never seen; 2 wrong usage, a bridge that
+// failed, lost output.
 
 mod bridge;
 mod call;

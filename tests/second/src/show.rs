@@ -180,9 +180,9 @@ fn differing_row(own: &Outcome, other: &Outcome) -> Option<String> {
 /// The first difference between this program's outcome and the library's, in words.
 pub fn difference(own: &Outcome, other: &Outcome) -> Option<String> {
     if other.touched != 0 {
-        let buffers = format!("{:04b}", other.touched);
+        let buffers = format!("{:05b}", other.touched);
         return Some(format!(
-            "bytes before lent parts changed (room piece table shadow: {})",
+            "bytes before lent parts changed (session room piece table shadow: {})",
             buffers
         ));
     }

@@ -18,8 +18,8 @@ use contract.Monad.{Fun, fact}
 use contract.Lifetimes.{Lfts, Shares}
 use contract.Running.{givenOf, tables, tablesOf}
 use types.Kit.{Given, Item, ‵, raw, some, later, _⊛_, ⋆, _$_, _∵_, !, qed, by, move, drop, use1, use2, split, join, pick, fsplit, fjoin, feqL, suffices, frame, await, done}
-use types.Run.{look, init, stop, hop, fld, from, addr, and-then, no-more, land, returns, enter, alloc1, alloc0, params1, pass1, pass0, free0}
-use types.Part.{agg, whole, sub, look-in}
+use types.Run.{look, init, stop, hop, from, addr, and-then, no-more, land, returns, enter, alloc1, alloc0, params1, pass1, pass0, free0}
+use types.Part.{whole}
 use sound.WpLaws.{FmC, fmOf, WpFn-mono}
 use denote.RattleType.{RattleType, owns}
 use denote.Laws.{Is, shows}
@@ -43,7 +43,7 @@ use Rattle.rules.proofs.Session as S
 use Rattle.rules.proofs.Counts as N
 use Rattle.rules.proofs.Counts.Laws as N′
 use Rattle.lent.specs.Calls.{FeedsInPlace}
-use Rattle.lent.proofs.Walk.{cell, pair-of, local-of, field-of, sets, gone}
+use Rattle.lent.proofs.Walk.{cell, pair-of, local-of, address, with-length, sets, gone}
 use Rattle.lent.proofs.feed_in_place as feed
 use Rattle.lent.proofs.feed_in_place.Symbol as feed-def
 use Rattle.lent.proofs.feed_in_place.Symbol.{name as #lent·feed-in-place}
@@ -60,7 +60,8 @@ stayed = (gave-ref (0 ∷ []) tt (plain (λ _. S.the-row)), (gave-slice (1 ∷ [
 abbrev Feed : {M : Type 1} (𝓤 : URA M) (H : Heap 𝓤) (A : Atoms 𝓤) (mem : Memory → SProp 𝓤) (run : Routine → Fun 𝓤) → Contract 𝓤
 Feed 𝓤 H A mem run = tripleOf 𝓤 H A feed.signature (feed.spec 𝓤 H A mem run)
 
--- where a local stands in the context, behind `front` other items: there are 13 locals
+-- where a local stands in the context, behind `front` other items. There are 13: 0 the counts, 1 to 5 the parameters, 6 the session and 7 to 12 the
+-- slices, as they are lent on
 abbrev at : ℕ → ℕ → ℕ
 at front i = cell 12 front i
 
@@ -121,12 +122,12 @@ module _ {M : Type 1} (𝓤 : URA M) (H : Heap 𝓤) (A : Atoms 𝓤) (W : Given
         pass1 ! (init ! (at 0 4) refl (tt, (tt, (record { fits = in-piece .0 }, tt)))) $ pass1 ! (init ! (at 0 5) refl (tt, (tt, (record { fits = in-room .0 }, tt)))) $ pass0 ! $
         -- [the locals; the tokens; what the parameters own]
         sets ! (at 0 6) (addr ! (from ! (hop ! (look ! (at 0 1) refl) (stop !)))) refl (tt, tt) $
-        sets ! (at 0 7) (addr ! (from ! (fld ! refl (hop ! (look-in ! (at 0 2) (sub ! 0 refl (whole !))) (stop !))))) refl (tt, tt) $
-        sets ! (at 0 8) (agg ! (and-then ! (local-of ! (at 0 7) refl) (and-then ! (field-of ! (at 0 2) 1 refl refl (whole !)) (no-more !)))) refl (tt, (tt, (record { fits = in-shadow .0 }, tt))) $
-        sets ! (at 0 9) (addr ! (from ! (fld ! refl (hop ! (look-in ! (at 0 3) (sub ! 0 refl (whole !))) (stop !))))) refl (tt, tt) $
-        sets ! (at 0 10) (agg ! (and-then ! (local-of ! (at 0 9) refl) (and-then ! (field-of ! (at 0 3) 1 refl refl (whole !)) (no-more !)))) refl (tt, (tt, (record { fits = in-table .0 }, tt))) $
-        sets ! (at 0 11) (addr ! (from ! (fld ! refl (hop ! (look-in ! (at 0 5) (sub ! 0 refl (whole !))) (stop !))))) refl (tt, tt) $
-        sets ! (at 0 12) (agg ! (and-then ! (local-of ! (at 0 11) refl) (and-then ! (field-of ! (at 0 5) 1 refl refl (whole !)) (no-more !)))) refl (tt, (tt, (record { fits = in-room .0 }, tt))) $
+        sets ! (at 0 7) (address ! (at 0 2) refl refl (whole !)) refl (tt, tt) $
+        sets ! (at 0 8) (with-length ! (at 0 7) (at 0 2) refl refl refl (whole !)) refl (tt, (tt, (record { fits = in-shadow .0 }, tt))) $
+        sets ! (at 0 9) (address ! (at 0 3) refl refl (whole !)) refl (tt, tt) $
+        sets ! (at 0 10) (with-length ! (at 0 9) (at 0 3) refl refl refl (whole !)) refl (tt, (tt, (record { fits = in-table .0 }, tt))) $
+        sets ! (at 0 11) (address ! (at 0 5) refl refl (whole !)) refl (tt, tt) $
+        sets ! (at 0 12) (with-length ! (at 0 11) (at 0 5) refl refl refl (whole !)) refl (tt, (tt, (record { fits = in-room .0 }, tt))) $
         move ! (26 ∷ 27 ∷ []) $ use2 W (raw (Feed 𝓤 H A at-mem run .pre to-feed)) asked $
         calls-at ! fm (Feed 𝓤 H A at-mem run) known to-feed
         (and-then ! (local-of ! (at 1 6) refl) (and-then ! (local-of ! (at 1 8) refl) (and-then ! (local-of ! (at 1 10) refl) (and-then ! (local-of ! (at 1 4) refl) (and-then ! (local-of ! (at 1 12) refl) (no-more !)))))) (λ v.

@@ -19,8 +19,8 @@ use contract.Monad.{Fun, fact}
 use contract.Lifetimes.{Lfts, Shares}
 use contract.Running.{givenOf, tables, tablesOf}
 use types.Kit.{Given, Item, ‵, raw, some, later, _⊛_, ⋆, _$_, _∵_, !, qed, by, move, drop, use1, use3, split, join, pick, rewrite, fsplit, fsplit3, fjoin, fjoin3, feqL, feqI, suffices, frame, await, done}
-use types.Run.{look, init, stop, hop, fld, from, addr, of-opd, and-then, no-more, land, returns, enter, alloc1, alloc0, params1, pass1, pass0, free0}
-use types.Part.{agg, whole, sub, look-in}
+use types.Run.{look, init, stop, from, of-opd, and-then, no-more, land, returns, enter, alloc1, alloc0, params1, pass1, pass0, free0}
+use types.Part.{agg, whole}
 use types.SemTy.{Body}
 use sound.WpLaws.{FmC, fmOf, WpFn-mono}
 use denote.RattleType.{RattleType, owns}
@@ -56,7 +56,7 @@ use Rattle.watcher.proofs.feed.Symbol.{name as #watcher·feed}
 use Rattle.watcher.proofs.feed.Met as feed-thm
 use Rattle.lent.specs.Calls.{counts-of}
 use Rattle.lent.proofs.Calls.{in-place}
-use Rattle.lent.proofs.Walk.{cell, pair-of, local-of, field-of, behind, sets, stores, gone}
+use Rattle.lent.proofs.Walk.{cell, pair-of, local-of, field-of, behind, address, with-length, sets, stores, gone}
 use Rattle.lent.proofs.feed_in_place.Key.{name as #lent·feed-in-place}
 use Rattle.lent.proofs.feed_in_place as f
 use Rattle.lent.proofs.feed_in_place.Statement as stated
@@ -69,7 +69,8 @@ stayed = (stay-ref (0 ∷ []) tt (plain (λ _. S.the-row)), (gave-slice (1 ∷ [
 abbrev Feed : {M : Type 1} (𝓤 : URA M) (H : Heap 𝓤) (A : Atoms 𝓤) (mem : Memory → SProp 𝓤) (run : Routine → Fun 𝓤) → Contract 𝓤
 Feed 𝓤 H A mem run = tripleOf 𝓤 H A feed.signature (feed.spec 𝓤 H A mem run)
 
--- where a local stands in the context, behind `front` other items: there are 21 locals
+-- where a local stands in the context, behind `front` other items. There are 21: 0 the counts, 1 to 5 the parameters, 6 `before`, 7 `fed`, 8 `after`,
+-- 9 to 14 the session's fields, 15 to 20 the slices as they are lent on
 abbrev at : ℕ → ℕ → ℕ
 at front i = cell 20 front i
 
@@ -154,12 +155,12 @@ module _ {M : Type 1} (𝓤 : URA M) (H : Heap 𝓤) (A : Atoms 𝓤) (W : Given
         sets ! (at 7 6) (agg ! (and-then ! (local-of ! (at 7 9) refl) (and-then ! (local-of ! (at 7 10) refl) (and-then ! (local-of ! (at 7 11) refl)
         (and-then ! (local-of ! (at 7 12) refl) (and-then ! (local-of ! (at 7 13) refl) (and-then ! (local-of ! (at 7 14) refl) (no-more !)))))))) refl (LL.lawful S.the-type S′.the-laws 𝓤 H A W .typed session _ is .0) $
         -- the by-value feed is called
-        sets ! (at 7 15) (addr ! (from ! (fld ! refl (hop ! (look-in ! (at 7 2) (sub ! 0 refl (whole !))) (stop !))))) refl (tt, tt) $
-        sets ! (at 7 16) (agg ! (and-then ! (local-of ! (at 7 15) refl) (and-then ! (field-of ! (at 7 2) 1 refl refl (whole !)) (no-more !)))) refl (tt, (tt, (record { fits = in-shadow .0 }, tt))) $
-        sets ! (at 7 17) (addr ! (from ! (fld ! refl (hop ! (look-in ! (at 7 3) (sub ! 0 refl (whole !))) (stop !))))) refl (tt, tt) $
-        sets ! (at 7 18) (agg ! (and-then ! (local-of ! (at 7 17) refl) (and-then ! (field-of ! (at 7 3) 1 refl refl (whole !)) (no-more !)))) refl (tt, (tt, (record { fits = in-table .0 }, tt))) $
-        sets ! (at 7 19) (addr ! (from ! (fld ! refl (hop ! (look-in ! (at 7 5) (sub ! 0 refl (whole !))) (stop !))))) refl (tt, tt) $
-        sets ! (at 7 20) (agg ! (and-then ! (local-of ! (at 7 19) refl) (and-then ! (field-of ! (at 7 5) 1 refl refl (whole !)) (no-more !)))) refl (tt, (tt, (record { fits = in-room .0 }, tt))) $
+        sets ! (at 7 15) (address ! (at 7 2) refl refl (whole !)) refl (tt, tt) $
+        sets ! (at 7 16) (with-length ! (at 7 15) (at 7 2) refl refl refl (whole !)) refl (tt, (tt, (record { fits = in-shadow .0 }, tt))) $
+        sets ! (at 7 17) (address ! (at 7 3) refl refl (whole !)) refl (tt, tt) $
+        sets ! (at 7 18) (with-length ! (at 7 17) (at 7 3) refl refl refl (whole !)) refl (tt, (tt, (record { fits = in-table .0 }, tt))) $
+        sets ! (at 7 19) (address ! (at 7 5) refl refl (whole !)) refl (tt, tt) $
+        sets ! (at 7 20) (with-length ! (at 7 19) (at 7 5) refl refl refl (whole !)) refl (tt, (tt, (record { fits = in-room .0 }, tt))) $
         move ! (5 ∷ 1 ∷ 6 ∷ []) $ use3 W (raw (Feed 𝓤 H A at-mem run .pre to-feed)) asked $
         calls-at ! fm (Feed 𝓤 H A at-mem run) known to-feed
         (and-then ! (local-of ! (at 5 6) refl) (and-then ! (local-of ! (at 5 16) refl) (and-then ! (local-of ! (at 5 18) refl) (and-then ! (local-of ! (at 5 4) refl) (and-then ! (local-of ! (at 5 20) refl) (no-more !)))))) (λ v.
