@@ -1,5 +1,5 @@
 -- No second outcome fits the statement of a call that answers in numbers: whatever two satisfy it, for the same input, are one. `Opens` and
--- `Feeds` have theirs beside the watcher, and a map is an equation. Assumes nothing.
+-- `Feeds` have theirs beside the watcher, `FeedsInPlace` in `lent`, and a map is an equation. Assumes nothing.
 use Prim.Native.Nat.{ℕ}
 use mathlib.Core.Path.{_≡_, sym, _∙_}
 use mathlib.Core.List.{List}

@@ -1,5 +1,5 @@
 -- The statement of each call that answers in the paper's numbers: the reply and every lent buffer as it leaves it, for every input. `Opens`
--- and `Feeds`, whose results are numbers already, are the watcher's own.
+-- and `Feeds`, whose results are numbers already, are the watcher's own, and `FeedsInPlace` is `lent`'s.
 use Prim.Native.Nat.{ℕ}
 use mathlib.Core.Path.{_≡_}
 use mathlib.Core.List.{List}

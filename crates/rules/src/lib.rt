@@ -3,7 +3,7 @@
 // does not cross to C; each enum has its numbers by a definition of `specs/`.
 pub mod limits;
 
-// A session: passed by value and handed back. A closed one is all zeros.
+// A session: passed by value and handed back, or lent and changed in place. A closed one is all zeros.
 #[repr(C)]
 pub struct Session {
     // S, the granules of the arena and the bytes of its shadow
