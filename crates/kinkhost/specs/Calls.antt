@@ -1,5 +1,6 @@
--- The statement of each call that answers in the paper's numbers: the reply and every lent buffer as it leaves it, for every input. `Opens`
--- and `Feeds`, whose results are numbers already, are the watcher's own, and `FeedsInPlace` is `lent`'s.
+-- The statement of each call that answers in the paper's numbers: the reply and every lent buffer as it leaves it, for
+-- every input. `OpenCall` and `FeedCall`, whose results are numbers already, are the watcher's own, and
+-- `FeedInPlaceCall` is `lent`'s.
 use Prim.Native.Nat.{ℕ}
 use mathlib.Core.Path.{_≡_}
 use mathlib.Core.List.{List}
@@ -8,18 +9,20 @@ use Rattle.rules.specs.declared.Reply.{Reply}
 use Rattle.rules.specs.Answers.{in-numbers}
 use Rattle.rules.specs.Calls.{grant-call, release-call, access-call, unfinished-call}
 
-pub record Grants (session : Session) (shadow-before table-before : List ℕ) (size : ℕ) (r : Reply) (shadow-after table-after : List ℕ) : Type 0 where
+pub record GrantInNumbers (session : Session) (shadow-before table-before : List ℕ) (size : ℕ) (r : Reply)
+    (shadow-after table-after : List ℕ) : Type 0 where
   pub reply : r ≡ in-numbers (grant-call session shadow-before table-before size .answer)
   pub shadow : shadow-after ≡ grant-call session shadow-before table-before size .shadow
   pub table : table-after ≡ grant-call session shadow-before table-before size .table
 
-pub record Releases (session : Session) (shadow-before table-before : List ℕ) (address : ℕ) (r : Reply) (shadow-after table-after : List ℕ) : Type 0 where
+pub record ReleaseInNumbers (session : Session) (shadow-before table-before : List ℕ) (address : ℕ) (r : Reply)
+    (shadow-after table-after : List ℕ) : Type 0 where
   pub reply : r ≡ in-numbers (release-call session shadow-before table-before address .answer)
   pub shadow : shadow-after ≡ release-call session shadow-before table-before address .shadow
   pub table : table-after ≡ release-call session shadow-before table-before address .table
 
-pub record Accesses (session : Session) (shadow table : List ℕ) (address length : ℕ) (r : Reply) : Type 0 where
+pub record AccessInNumbers (session : Session) (shadow table : List ℕ) (address length : ℕ) (r : Reply) : Type 0 where
   pub reply : r ≡ in-numbers (access-call session shadow table address length)
 
-pub record Asks (session : Session) (r : Reply) : Type 0 where
+pub record UnfinishedInNumbers (session : Session) (r : Reply) : Type 0 where
   pub reply : r ≡ in-numbers (unfinished-call session)

@@ -8,9 +8,9 @@ use rules::Reply;
 use rules::Session;
 ghost use mathlib.Core.Path.{_≡_};
 ghost use Rattle.rules.specs.Maps.{map32, map64, map-call};
-ghost use Rattle.watcher.specs.Calls.{Opens, Feeds};
-ghost use Rattle.lent.specs.Calls.{FeedsInPlace};
-ghost use Rattle.kinkhost.specs.Calls.{Grants, Releases, Accesses, Asks};
+ghost use Rattle.watcher.specs.Calls.{OpenCall, FeedCall};
+ghost use Rattle.lent.specs.Calls.{FeedInPlaceCall};
+ghost use Rattle.kinkhost.specs.Calls.{GrantInNumbers, ReleaseInNumbers, AccessInNumbers, UnfinishedInNumbers};
 
 #[no_mangle]
 pub extern "C" fn kinkhost_open(
@@ -19,7 +19,8 @@ pub extern "C" fn kinkhost_open(
     redzone: usize,
     quarantine: u32,
 ) -> Opened
-    ensures { λ r. ⌜ Opens (now (shadow .entry)) (now (table .entry)) redzone quarantine r (now (shadow .exit)) (now (table .exit)) ⌝ }
+    ensures { λ r. ⌜ OpenCall (now (shadow .entry)) (now (table .entry)) redzone quarantine
+        r (now (shadow .exit)) (now (table .exit)) ⌝ }
 {
     watcher::open(shadow, table, redzone, quarantine)
 }
@@ -31,7 +32,8 @@ pub extern "C" fn kinkhost_grant(
     table: &mut [u32],
     size: u32,
 ) -> Reply
-    ensures { λ r. ⌜ Grants session (now (shadow .entry)) (now (table .entry)) size r (now (shadow .exit)) (now (table .exit)) ⌝ }
+    ensures { λ r. ⌜ GrantInNumbers session (now (shadow .entry)) (now (table .entry)) size
+        r (now (shadow .exit)) (now (table .exit)) ⌝ }
 {
     answers::numbers_of(watcher::grant(session, shadow, table, size))
 }
@@ -43,7 +45,8 @@ pub extern "C" fn kinkhost_release(
     table: &mut [u32],
     address: u32,
 ) -> Reply
-    ensures { λ r. ⌜ Releases session (now (shadow .entry)) (now (table .entry)) address r (now (shadow .exit)) (now (table .exit)) ⌝ }
+    ensures { λ r. ⌜ ReleaseInNumbers session (now (shadow .entry)) (now (table .entry)) address
+        r (now (shadow .exit)) (now (table .exit)) ⌝ }
 {
     answers::numbers_of(watcher::release(session, shadow, table, address))
 }
@@ -56,7 +59,7 @@ pub extern "C" fn kinkhost_access(
     address: u32,
     length: u32,
 ) -> Reply
-    ensures { λ r. ⌜ Accesses session (now (shadow .entry)) (now (table .entry)) address length r ⌝ }
+    ensures { λ r. ⌜ AccessInNumbers session (now (shadow .entry)) (now (table .entry)) address length r ⌝ }
 {
     answers::numbers_of(watcher::access(session, shadow, table, address, length))
 }
@@ -69,7 +72,9 @@ pub extern "C" fn kinkhost_feed(
     piece: &[u8],
     room: &mut [u8],
 ) -> Fed
-    ensures { λ r. ⌜ Feeds session (now (shadow .entry)) (now (table .entry)) (now (piece .entry)) (now (room .entry)) r (now (shadow .exit)) (now (table .exit)) (now (room .exit)) ⌝ }
+    ensures { λ r. ⌜ FeedCall session (now (shadow .entry)) (now (table .entry))
+        (now (piece .entry)) (now (room .entry))
+        r (now (shadow .exit)) (now (table .exit)) (now (room .exit)) ⌝ }
 {
     watcher::feed(session, shadow, table, piece, room)
 }
@@ -82,14 +87,16 @@ pub extern "C" fn kinkhost_feed_in_place(
     piece: &[u8],
     room: &mut [u8],
 ) -> Counts
-    ensures { λ r. ⌜ FeedsInPlace (now (session .entry)) (now (shadow .entry)) (now (table .entry)) (now (piece .entry)) (now (room .entry)) r (now (session .exit)) (now (shadow .exit)) (now (table .exit)) (now (room .exit)) ⌝ }
+    ensures { λ r. ⌜ FeedInPlaceCall (now (session .entry)) (now (shadow .entry)) (now (table .entry))
+        (now (piece .entry)) (now (room .entry))
+        r (now (session .exit)) (now (shadow .exit)) (now (table .exit)) (now (room .exit)) ⌝ }
 {
     lent::feed_in_place(session, shadow, table, piece, room)
 }
 
 #[no_mangle]
 pub extern "C" fn kinkhost_unfinished(session: Session) -> Reply
-    ensures { λ r. ⌜ Asks session r ⌝ }
+    ensures { λ r. ⌜ UnfinishedInNumbers session r ⌝ }
 {
     answers::numbers_of(watcher::unfinished(session))
 }

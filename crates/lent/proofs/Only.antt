@@ -4,13 +4,14 @@ use mathlib.Core.Path.{_≡_, sym, _∙_}
 use mathlib.Core.List.{List}
 use Rattle.rules.specs.declared.Session.{Session}
 use Rattle.rules.specs.declared.Counts.{Counts}
-use Rattle.lent.specs.Calls.{FeedsInPlace}
+use Rattle.lent.specs.Calls.{FeedInPlaceCall}
 
 module _ {session : Session} {shadow table piece room : List ℕ} {one two : Counts} {session-one session-two : Session} {shadow-one table-one room-one shadow-two table-two room-two : List ℕ} where
-  pub feeds-in-place-only : FeedsInPlace session shadow table piece room one session-one shadow-one table-one room-one
-      → FeedsInPlace session shadow table piece room two session-two shadow-two table-two room-two
+  pub feed-in-place-call-only :
+      FeedInPlaceCall session shadow table piece room one session-one shadow-one table-one room-one
+      → FeedInPlaceCall session shadow table piece room two session-two shadow-two table-two room-two
       → (one ≡ two) × (session-one ≡ session-two) × (shadow-one ≡ shadow-two) × (table-one ≡ table-two) × (room-one ≡ room-two)
-  feeds-in-place-only a b = (
+  feed-in-place-call-only a b = (
     a .counts ∙ sym (b .counts),
     a .session ∙ sym (b .session),
     a .shadow ∙ sym (b .shadow),

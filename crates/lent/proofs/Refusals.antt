@@ -12,11 +12,13 @@ use Rattle.rules.specs.Answers.{status}
 use Rattle.rules.specs.Feed.{act-line}
 use Rattle.rules.proofs.Calls.{state-of}
 use Rattle.watcher.proofs.Refusals as by-value-call
-use Rattle.lent.specs.Calls.{counts-of, FeedsInPlace}
+use Rattle.lent.specs.Calls.{counts-of, FeedInPlaceCall}
 use Rattle.lent.proofs.Calls.{by-value}
 
 module _ {session session-after : Session} {shadow table room shadow-after table-after room-after : List ℕ} {counts : Counts} where
-  pub feed-in-place-refused-keeps : {piece : List ℕ} → FeedsInPlace session shadow table piece room counts session-after shadow-after table-after room-after → counts .status ≢ 0
+  pub feed-in-place-refused-keeps : {piece : List ℕ}
+      → FeedInPlaceCall session shadow table piece room counts session-after shadow-after table-after room-after
+      → counts .status ≢ 0
       → (counts ≡ record { status = 24; taken = 0; wrote = 0 })
       × (session-after ≡ session)
       × (shadow-after ≡ shadow)
@@ -26,6 +28,8 @@ module _ {session session-after : Session} {shadow table room shadow-after table
       let kept = by-value-call.feed-refused-keeps (by-value lent) refused in
       (ap counts-of (kept .0), ap (λ (fed : Fed). fed .session) (kept .0), kept .1, kept .2, kept .3)
 
-  pub line-in-place-refused-keeps : FeedsInPlace session shadow table (line-feed ∷ []) room counts session-after shadow-after table-after room-after
+  pub line-in-place-refused-keeps :
+      FeedInPlaceCall session shadow table (line-feed ∷ []) room
+      counts session-after shadow-after table-after room-after
       → status (act-line (state-of session shadow table) .answer) ≢ 0 → (shadow-after ≡ shadow) × (table-after ≡ table)
   line-in-place-refused-keeps lent refused = by-value-call.line-refused-keeps (by-value lent) refused

@@ -12,7 +12,8 @@ use Rattle.rules.specs.Calls.{feed}
 abbrev pub counts-of : Fed → Counts
 counts-of fed = record { status = fed .status; taken = fed .taken; wrote = fed .wrote }
 
-pub record FeedsInPlace (session-before : Session) (shadow-before table-before piece room-before : List ℕ) (r : Counts) (session-after : Session) (shadow-after table-after room-after : List ℕ) : Type 0 where
+pub record FeedInPlaceCall (session-before : Session) (shadow-before table-before piece room-before : List ℕ)
+    (r : Counts) (session-after : Session) (shadow-after table-after room-after : List ℕ) : Type 0 where
   pub counts : r ≡ counts-of (feed session-before shadow-before table-before piece room-before .given)
   pub session : session-after ≡ feed session-before shadow-before table-before piece room-before .given .session
   pub shadow : shadow-after ≡ feed session-before shadow-before table-before piece room-before .shadow

@@ -6,7 +6,7 @@ use lib.ListN.{take, drop}
 use Rattle.rules.specs.declared.Counts.{Counts}
 use Rattle.rules.specs.Feed.{State, after, run}
 use Rattle.promises.specs.Cutting.{Call, Chained}
-use Rattle.lent.specs.Calls.{FeedsInPlace}
+use Rattle.lent.specs.Calls.{FeedInPlaceCall}
 
 -- what such a caller has in the end, by the statement of each call: the last session, shadow and table, the reports joined, and what is left
 -- of the text. Each call is offered a piece that begins where the last one stopped taking; what it wrote is the first part of its room
@@ -14,7 +14,8 @@ unfoldable pub Keeps : State → List ℕ → List Call → Chained → Type 0
 Keeps st text [] end = end ≡ record { ran = record { state = st; report = [] }; left = text }
 Keeps st text (call ∷ calls) end =
     (counts : Counts) × (next : State) × (room : List ℕ) × (rest : Chained)
-    × FeedsInPlace (st .session) (st .shadow) (st .table) (take (call .offered) text) (call .room) counts (next .session) (next .shadow) (next .table) room
+    × FeedInPlaceCall (st .session) (st .shadow) (st .table) (take (call .offered) text) (call .room)
+    counts (next .session) (next .shadow) (next .table) room
     × Keeps next (drop (counts .taken) text) calls rest
     × (end ≡ record { ran = after (take (counts .wrote) room) (rest .ran); left = rest .left })
 

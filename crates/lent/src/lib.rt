@@ -2,7 +2,7 @@
 // does, 24 among its answers, on which the session stays as it was.
 use rules::Counts;
 use rules::Session;
-ghost use Rattle.lent.specs.Calls.{FeedsInPlace};
+ghost use Rattle.lent.specs.Calls.{FeedInPlaceCall};
 
 // The session is taken apart, the by-value feed is called, and the fields of the session that it hands back are stored.
 pub fn feed_in_place(
@@ -12,7 +12,9 @@ pub fn feed_in_place(
     piece: &[u8],
     room: &mut [u8],
 ) -> Counts
-    ensures { λ r. ⌜ FeedsInPlace (now (session .entry)) (now (shadow .entry)) (now (table .entry)) (now (piece .entry)) (now (room .entry)) r (now (session .exit)) (now (shadow .exit)) (now (table .exit)) (now (room .exit)) ⌝ }
+    ensures { λ r. ⌜ FeedInPlaceCall (now (session .entry)) (now (shadow .entry)) (now (table .entry))
+        (now (piece .entry)) (now (room .entry))
+        r (now (session .exit)) (now (shadow .exit)) (now (table .exit)) (now (room .exit)) ⌝ }
 {
     let before = Session {
         granules: session.granules,

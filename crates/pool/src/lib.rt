@@ -13,7 +13,7 @@ ghost use Prim.Native.Nat.{_≤_};
 ghost use mathlib.Core.Path.{_≡_};
 ghost use lib.ListN.{length};
 ghost use Rattle.rules.specs.Limits.{most-granules};
-ghost use Rattle.rules.specs.Grant.{kept, counted, grant};
+ghost use Rattle.rules.specs.Grant.{acted, counted, grant};
 ghost use Rattle.rules.specs.Release.{release};
 ghost use Rattle.rules.specs.Feed.{access, act};
 ghost use Rattle.rules.proofs.Calls.{Lent};
@@ -28,7 +28,8 @@ fn counted(size: u32) -> u32
 // 05 where no row is empty, then 06 where no start exists; else the lowest place, painted, in the lowest empty row.
 pub fn grant(session: Session, shadow: &mut [u8], table: &mut [u32], size: u32) -> Answer
     requires { ⌜ Lent session (now shadow) (now table) ⌝ }
-    ensures { λ r. ⌜ kept r (now (shadow .exit)) (now (table .exit)) ≡ grant (session .redzone) (now (shadow .entry)) (now (table .entry)) size ⌝ }
+    ensures { λ r. ⌜ acted r (now (shadow .exit)) (now (table .exit))
+        ≡ grant (session .redzone) (now (shadow .entry)) (now (table .entry)) size ⌝ }
 {
     let Found::One(row) = rows::empty_row(table) else {
         return Answer::NoRow;
@@ -48,7 +49,8 @@ pub fn grant(session: Session, shadow: &mut [u8], table: &mut [u32], size: u32) 
 // The value is how many are evicted.
 pub fn release(session: Session, shadow: &mut [u8], table: &mut [u32], address: u32) -> Answer
     requires { ⌜ Lent session (now shadow) (now table) ⌝ }
-    ensures { λ r. ⌜ kept r (now (shadow .exit)) (now (table .exit)) ≡ release (session .redzone) (session .quarantine) (now (shadow .entry)) (now (table .entry)) address ⌝ }
+    ensures { λ r. ⌜ acted r (now (shadow .exit)) (now (table .exit))
+        ≡ release (session .redzone) (session .quarantine) (now (shadow .entry)) (now (table .entry)) address ⌝ }
 {
     quarantine::release(shadow, table, session.redzone, session.quarantine, address)
 }
@@ -70,7 +72,8 @@ pub fn access(shadow: &[u8], address: u32, bytes: u32) -> Answer
 // What a line asks, done; a line that asks nothing is answered with its refusal.
 pub fn act(session: Session, shadow: &mut [u8], table: &mut [u32], frame: Frame) -> Answer
     requires { ⌜ Lent session (now shadow) (now table) ⌝ }
-    ensures { λ r. ⌜ kept r (now (shadow .exit)) (now (table .exit)) ≡ act session (now (shadow .entry)) (now (table .entry)) frame ⌝ }
+    ensures { λ r. ⌜ acted r (now (shadow .exit)) (now (table .exit))
+        ≡ act session (now (shadow .entry)) (now (table .entry)) frame ⌝ }
 {
     match frame {
         Frame::Grant { size } => grant(session, shadow, table, size),

@@ -14,7 +14,7 @@ use Rattle.rules.specs.declared.Frame.the-variants.{Grant, Release}
 use Rattle.rules.specs.Limits.{granule, empty, live, quarantined}
 use Rattle.rules.specs.Table.{rows, start, state, is-empty}
 use Rattle.rules.specs.Answers.{in-numbers, status}
-use Rattle.rules.specs.Grant.{counted, granules, place, empty-row, grant-at, grant, kept}
+use Rattle.rules.specs.Grant.{counted, granules, place, empty-row, grant-at, grant, unchanged}
 use Rattle.rules.specs.Release.{row-at, release-row, release, Pool, quarantine-row}
 use Rattle.rules.specs.Feed.{act, act-line}
 use Rattle.rules.proofs.Tests.{by-order}
@@ -364,7 +364,7 @@ unfolding history heard-all done act status in-numbers
 releases-nothing r before x line asks-nothing =
     let m : Moment (HoldsOf r) (history before) x = line-moment r before x line in
     let h : History = history before in
-    let is : act-line (m .st) ≡ kept (Done 0) (m .st .shadow) (m .st .table) =
+    let is : act-line (m .st) ≡ unchanged (Done 0) (m .st .shadow) (m .st .table) =
     acted-on m (Release 0) asks-nothing ∙ release-nothing (m .st .session .redzone) (m .st .session .quarantine) (m .st .shadow) (m .st .table) in
     let is-done : status-of x ≡ some 0 = m .status-is ∙ ap (λ acted. some (status (acted .answer))) is in
     let says-nothing : value-of x ≡ some 0 = m .value-is ∙ ap (λ acted. some (in-numbers (acted .answer) .value)) is in

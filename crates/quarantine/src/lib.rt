@@ -10,7 +10,7 @@ use rules::Found;
 use rules::limits::QUARANTINED;
 use rules::limits::RELEASED_BYTE;
 ghost use mathlib.Core.Path.{_≡_};
-ghost use Rattle.rules.specs.Grant.{kept};
+ghost use Rattle.rules.specs.Grant.{acted};
 ghost use Rattle.rules.specs.Release.{release};
 ghost use Rattle.blocks.specs.Survey.{Lent};
 ghost use Rattle.evictions.specs.Evictions.{pool};
@@ -72,7 +72,8 @@ pub fn release(
     address: u32,
 ) -> Answer
     requires { ⌜ Lent redzone (now table) ⌝ }
-    ensures { λ r. ⌜ kept r (now (shadow .exit)) (now (table .exit)) ≡ release redzone quarantine (now (shadow .entry)) (now (table .entry)) address ⌝ }
+    ensures { λ r. ⌜ acted r (now (shadow .exit)) (now (table .exit))
+        ≡ release redzone quarantine (now (shadow .entry)) (now (table .entry)) address ⌝ }
 {
     if address == 0 {
         return Answer::Done { value: 0 };

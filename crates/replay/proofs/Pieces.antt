@@ -16,7 +16,7 @@ use Rattle.rules.proofs.Feed.{run-append, run-report, line-feeds}
 use Rattle.rules.proofs.Calls.{feed-done, feed-24}
 use Rattle.tally.specs.Tally.{with-answers-zero, with-report}
 use Rattle.tally.proofs.Judged.{with-report-append}
-use Rattle.watcher.specs.Calls.{Feeds}
+use Rattle.watcher.specs.Calls.{FeedCall}
 use Rattle.replay.specs.declared.offer.Run.{Run}
 use Rattle.replay.specs.Offer.{state-of, Kept, Leads, Taken}
 
@@ -49,7 +49,7 @@ abbrev fed-of : Fed → List ℕ → List ℕ → List ℕ → FedWith
 fed-of given shadow table room = record { given = given; shadow = shadow; table = table; room = room }
 
 module _ (before : Run) {shadow table part room shadow-after table-after room-after : List ℕ} {fed : Fed} where
-  given-is : Feeds (before .session) shadow table part room fed shadow-after table-after room-after
+  given-is : FeedCall (before .session) shadow table part room fed shadow-after table-after room-after
       → fed-of fed shadow-after table-after room-after ≡ feed (before .session) shadow table part room
   given-is f =
       let rules : FedWith = feed (before .session) shadow table part room in
@@ -58,7 +58,9 @@ module _ (before : Run) {shadow table part room shadow-after table-after room-af
       ∙ ap (λ table. fed-of (rules .given) (rules .shadow) table room-after) (f .table)
       ∙ ap (fed-of (rules .given) (rules .shadow) (rules .table)) (f .room)
 
-  pub kept-taken : {r : Run} → Feeds (before .session) shadow table part room fed shadow-after table-after room-after → Kept before fed (length part) room-after r
+  pub kept-taken : {r : Run}
+      → FeedCall (before .session) shadow table part room fed shadow-after table-after room-after
+      → Kept before fed (length part) room-after r
       → Taken before shadow table part r shadow-after table-after
   kept-taken {r = r} f kept =
       let st : State = state-of (before .session) shadow table in

@@ -16,7 +16,7 @@ use Rattle.rules.specs.declared.Frame.the-variants.{Grant, Release, Read
 use Rattle.rules.specs.Limits.{between, least-granules, most-granules, least-rows, most-rows, row-numbers, least-redzone, most-redzone, frame-digits, too-long, redzone-byte}
 use Rattle.rules.specs.Answers.{in-numbers, status}
 use Rattle.rules.specs.Lowest.{lowest, found, all-equal}
-use Rattle.rules.specs.Grant.{kept}
+use Rattle.rules.specs.Grant.{unchanged}
 use Rattle.rules.specs.Feed.{State, Ran, no-bytes, with-line, emptied, lengthened, act, finish, hold, step, run, taken}
 use Rattle.rules.specs.Calls.{closed, fresh, table-length, OpenedWith, not-opened, open-with, unused-zero, within-limits, fits-lent, grant-call, release-call, access-call, unfinished-call, fed-with, feed}
 use Rattle.rules.proofs.Tests.{between-is, between-true, both, by-order, by-test, if-false, if-true, join}
@@ -262,18 +262,18 @@ unfolding release-call act
 release-as-frame session shadow table a e = if-true _ _ e
 
 pub access-as-frame : (session : Session) (shadow table : List ℕ) (a n : ℕ) → fits-lent session shadow table ≡ true
-    → kept (access-call session shadow table a n) shadow table ≡ act session shadow table (Read a n)
+    → unchanged (access-call session shadow table a n) shadow table ≡ act session shadow table (Read a n)
 unfolding access-call act
-access-as-frame session shadow table a n e = ap (λ answer. kept answer shadow table) (if-true _ _ e)
+access-as-frame session shadow table a n e = ap (λ answer. unchanged answer shadow table) (if-true _ _ e)
 
 -- 24 first, and it changes nothing
 pub grant-24 : (session : Session) (shadow table : List ℕ) (s : ℕ) → fits-lent session shadow table ≡ false
-    → grant-call session shadow table s ≡ kept BadSession shadow table
+    → grant-call session shadow table s ≡ unchanged BadSession shadow table
 unfolding grant-call
 grant-24 session shadow table s e = if-false _ _ e
 
 pub release-24 : (session : Session) (shadow table : List ℕ) (a : ℕ) → fits-lent session shadow table ≡ false
-    → release-call session shadow table a ≡ kept BadSession shadow table
+    → release-call session shadow table a ≡ unchanged BadSession shadow table
 unfolding release-call
 release-24 session shadow table a e = if-false _ _ e
 

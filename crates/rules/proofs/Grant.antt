@@ -13,7 +13,8 @@ use borrow.Author.Tests.{eqb-true, eq-eqb}
 use Rattle.rules.specs.declared.Answer.the-variants.{NoRow, NoPlace}
 use Rattle.rules.specs.Limits.{granule, most-granules, redzone-byte, row-numbers, empty, live}
 use Rattle.rules.specs.Table.{rows, column, state, is-empty}
-use Rattle.rules.specs.Grant.{Acted, kept, counted, granules, fits, place, last-granule, granted, empty-row, grant-at, grant}
+use Rattle.rules.specs.Grant.{Acted, unchanged, counted, granules, fits, place, last-granule, granted}
+use Rattle.rules.specs.Grant.{empty-row, grant-at, grant}
 use Rattle.rules.proofs.Tests.{by-found, by-order}
 use Rattle.rules.proofs.Lowest.{Lowest, lowest-some, lowest-none, below-all, AllEqual, all-equal-true, all-equal-is}
 use Rattle.rules.proofs.Put.{length-put}
@@ -195,12 +196,13 @@ empty-row-none table e i below is-zero =
 
 -- ---- a grant
 
-pub grant-no-row : (R : ℕ) (shadow table : List ℕ) (s : ℕ) → empty-row table ≡ none → grant R shadow table s ≡ kept NoRow shadow table
+pub grant-no-row : (R : ℕ) (shadow table : List ℕ) (s : ℕ) → empty-row table ≡ none
+    → grant R shadow table s ≡ unchanged NoRow shadow table
 unfolding grant
 grant-no-row R shadow table s e = rw (e, grant)
 
 pub grant-no-place : (R : ℕ) (shadow table : List ℕ) (s i : ℕ) → empty-row table ≡ some i → place shadow R (granules (counted s)) ≡ none
-    → grant R shadow table s ≡ kept NoPlace shadow table
+    → grant R shadow table s ≡ unchanged NoPlace shadow table
 unfolding grant
 grant-no-place R shadow table s i row e = rw (row, grant) (rw (e))
 
@@ -211,8 +213,9 @@ grant-done R shadow table s i p row e = rw (row, grant) (rw (e))
 
 -- by what a grant finds
 pub by-grant {ℓ} : (R : ℕ) (shadow table : List ℕ) (s : ℕ) (P : Acted → Type ℓ)
-    → (empty-row table ≡ none → P (kept NoRow shadow table))
-    → ((i : ℕ) → empty-row table ≡ some i → place shadow R (granules (counted s)) ≡ none → P (kept NoPlace shadow table))
+    → (empty-row table ≡ none → P (unchanged NoRow shadow table))
+    → ((i : ℕ) → empty-row table ≡ some i → place shadow R (granules (counted s)) ≡ none
+    → P (unchanged NoPlace shadow table))
     → ((i p : ℕ) → empty-row table ≡ some i → place shadow R (granules (counted s)) ≡ some p → P (grant-at shadow table (counted s) i p))
     → P (grant R shadow table s)
 by-grant R shadow table s P no-row no-place done =

@@ -17,7 +17,7 @@ use Rattle.rules.specs.declared.Answer.the-variants.{Done, NotHeld, Rele
 use Rattle.rules.specs.Limits.{granule, redzone-byte, released-byte, row-numbers, most-redzone, empty, live, quarantined}
 use Rattle.rules.specs.Lowest.{total}
 use Rattle.rules.specs.Table.{rows, column, start, size, state, turn, is-quarantined, put-row, lessened}
-use Rattle.rules.specs.Grant.{Acted, kept, granules}
+use Rattle.rules.specs.Grant.{Acted, unchanged, granules}
 use Rattle.rules.specs.Release.{starts-at, row-at, if-quarantined, in-quarantine, weight, weights, older, oldest, oldest-zero, oldest-here, oldest-other, Pool, paint-row, evict-row, evict-oldest, and-one-more, settle-in, settle, quarantine-row, release-row, release}
 use Rattle.rules.proofs.Tests.{by-found, by-order, by-test, if-false, if-true}
 use Rattle.rules.proofs.Lowest.{Lowest, lowest-some, lowest-none, below-all, total-change, le-total, total-above, total-most}
@@ -575,7 +575,7 @@ row-at-none wanted table a e j below has at =
 
 -- ---- a release
 
-pub release-nothing : (R Q : ℕ) (shadow table : List ℕ) → release R Q shadow table 0 ≡ kept (Done 0) shadow table
+pub release-nothing : (R Q : ℕ) (shadow table : List ℕ) → release R Q shadow table 0 ≡ unchanged (Done 0) shadow table
 unfolding release
 release-nothing R Q shadow table = refl
 
@@ -585,20 +585,21 @@ unfolding release
 release-done R Q shadow table a i above e = if-false _ _ (ne-eqb a 0 above) ∙ rw e
 
 pub release-twice : (R Q : ℕ) (shadow table : List ℕ) (a i : ℕ) → a ≢ 0 → row-at live table a ≡ none → row-at quarantined table a ≡ some i
-    → release R Q shadow table a ≡ kept Released shadow table
+    → release R Q shadow table a ≡ unchanged Released shadow table
 unfolding release
 release-twice R Q shadow table a i above e f = if-false _ _ (ne-eqb a 0 above) ∙ rw e (rw f)
 
 pub release-foreign : (R Q : ℕ) (shadow table : List ℕ) (a : ℕ) → a ≢ 0 → row-at live table a ≡ none → row-at quarantined table a ≡ none
-    → release R Q shadow table a ≡ kept NotHeld shadow table
+    → release R Q shadow table a ≡ unchanged NotHeld shadow table
 unfolding release
 release-foreign R Q shadow table a above e f = if-false _ _ (ne-eqb a 0 above) ∙ rw e (rw f)
 
 -- by what a release finds
 pub by-release {ℓ} : (R Q : ℕ) (shadow table : List ℕ) (a : ℕ) (P : Acted → Type ℓ)
-    → (a ≡ 0 → P (kept (Done 0) shadow table))
-    → (a ≢ 0 → row-at live table a ≡ none → row-at quarantined table a ≡ none → P (kept NotHeld shadow table))
-    → (a ≢ 0 → row-at live table a ≡ none → (i : ℕ) → row-at quarantined table a ≡ some i → P (kept Released shadow table))
+    → (a ≡ 0 → P (unchanged (Done 0) shadow table))
+    → (a ≢ 0 → row-at live table a ≡ none → row-at quarantined table a ≡ none → P (unchanged NotHeld shadow table))
+    → (a ≢ 0 → row-at live table a ≡ none → (i : ℕ) → row-at quarantined table a ≡ some i
+    → P (unchanged Released shadow table))
     → (a ≢ 0 → (i : ℕ) → row-at live table a ≡ some i → P (release-row R Q (record { shadow = shadow; table = table }) i))
     → P (release R Q shadow table a)
 by-release R Q shadow table a P nothing foreign twice done =

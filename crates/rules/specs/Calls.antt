@@ -13,7 +13,7 @@ use Rattle.rules.specs.Limits.{between, least-granules, most-granules, l
 use Rattle.rules.specs.Answers.{status}
 use Rattle.rules.specs.Lowest.{all-equal}
 use Rattle.rules.specs.Put.{put}
-use Rattle.rules.specs.Grant.{Acted, kept, grant}
+use Rattle.rules.specs.Grant.{Acted, unchanged, grant}
 use Rattle.rules.specs.Release.{release}
 use Rattle.rules.specs.Feed.{Ran, no-bytes, access, run, taken}
 
@@ -89,13 +89,16 @@ fits-lent session shadow table =
 
 unfoldable pub grant-call : Session → List ℕ → List ℕ → ℕ → Acted
 grant-call session shadow table s =
-    elim (fits-lent session shadow table) [ true ↦ grant (session .redzone) shadow table s | false ↦ kept BadSession shadow table ]
+    elim (fits-lent session shadow table) [
+      | true ↦ grant (session .redzone) shadow table s
+      | false ↦ unchanged BadSession shadow table
+    ]
 
 unfoldable pub release-call : Session → List ℕ → List ℕ → ℕ → Acted
 release-call session shadow table a =
     elim (fits-lent session shadow table) [
       | true ↦ release (session .redzone) (session .quarantine) shadow table a
-      | false ↦ kept BadSession shadow table
+      | false ↦ unchanged BadSession shadow table
     ]
 
 unfoldable pub access-call : Session → List ℕ → List ℕ → ℕ → ℕ → Answer

@@ -14,7 +14,7 @@ use Rattle.rules.specs.declared.Frame.{Frame}
 use Rattle.rules.specs.declared.Frame.the-variants.{Grant, Release, Read, Write, Refused}
 use Rattle.rules.specs.Limits.{frame-digits, too-long, line-feed, answer-bytes}
 use Rattle.rules.specs.Shadow.{judge}
-use Rattle.rules.specs.Grant.{Acted, kept, grant}
+use Rattle.rules.specs.Grant.{Acted, unchanged, grant}
 use Rattle.rules.specs.Release.{release}
 use Rattle.rules.specs.Frames.{frame-of-line, answer-line}
 
@@ -30,9 +30,9 @@ access shadow a n = of-verdict (judge shadow a n)
 unfoldable pub act : Session → List ℕ → List ℕ → Frame → Acted
 act session shadow table (Grant s) = grant (session .redzone) shadow table s
 act session shadow table (Release a) = release (session .redzone) (session .quarantine) shadow table a
-act session shadow table (Read a n) = kept (access shadow a n) shadow table
-act session shadow table (Write a n) = kept (access shadow a n) shadow table
-act session shadow table (Refused answer) = kept answer shadow table
+act session shadow table (Read a n) = unchanged (access shadow a n) shadow table
+act session shadow table (Write a n) = unchanged (access shadow a n) shadow table
+act session shadow table (Refused answer) = unchanged answer shadow table
 
 -- the session with another unfinished line
 abbrev pub with-line : Session → ℕ → List ℕ → Session

@@ -17,9 +17,12 @@ pub record Acted : Type 0 where
   pub shadow : List ℕ
   pub table : List ℕ
 
+abbrev pub acted : Answer → List ℕ → List ℕ → Acted
+acted answer shadow table = record { answer = answer; shadow = shadow; table = table }
+
 -- shadow and table as they were
-abbrev pub kept : Answer → List ℕ → List ℕ → Acted
-kept answer shadow table = record { answer = answer; shadow = shadow; table = table }
+abbrev pub unchanged : Answer → List ℕ → List ℕ → Acted
+unchanged = acted
 
 -- s = 0 counts as 1
 unfoldable pub counted : ℕ → ℕ
@@ -62,10 +65,10 @@ grant-at shadow table s i p = record {
 unfoldable pub grant : ℕ → List ℕ → List ℕ → ℕ → Acted
 grant R shadow table s =
     elim (empty-row table) [
-      | none ↦ kept NoRow shadow table
+      | none ↦ unchanged NoRow shadow table
       | some i ↦
           elim (place shadow R (granules (counted s))) [
-            | none ↦ kept NoPlace shadow table
+            | none ↦ unchanged NoPlace shadow table
             | some p ↦ grant-at shadow table (counted s) i p
           ]
     ]

@@ -10,7 +10,7 @@ use Rattle.rules.specs.Limits.{granule, redzone-byte, released-byte, emp
 use Rattle.rules.specs.Lowest.{lowest, total}
 use Rattle.rules.specs.Put.{fill}
 use Rattle.rules.specs.Table.{rows, start, size, state, turn, is-quarantined, put-row, lessened}
-use Rattle.rules.specs.Grant.{Acted, kept, granules}
+use Rattle.rules.specs.Grant.{Acted, unchanged, granules}
 
 -- row i starts at address a: 8 x start as a whole number, which does not wrap
 unfoldable pub starts-at : List ℕ → ℕ → ℕ → Bool
@@ -116,10 +116,14 @@ release-row R Q pool i =
 unfoldable pub release : ℕ → ℕ → List ℕ → List ℕ → ℕ → Acted
 release R Q shadow table a =
     elim (eqb a 0) [
-      | true ↦ kept (Done 0) shadow table
+      | true ↦ unchanged (Done 0) shadow table
       | false ↦
           elim (row-at live table a) [
             | some i ↦ release-row R Q (record { shadow = shadow; table = table }) i
-            | none ↦ elim (row-at quarantined table a) [ some i ↦ kept Released shadow table | none ↦ kept NotHeld shadow table ]
+            | none ↦
+                elim (row-at quarantined table a) [
+                  | some i ↦ unchanged Released shadow table
+                  | none ↦ unchanged NotHeld shadow table
+                ]
           ]
     ]

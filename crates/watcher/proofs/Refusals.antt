@@ -19,7 +19,7 @@ use Rattle.rules.specs.Calls.{closed, open-with, fits-lent, within-limits, gran
 use Rattle.rules.proofs.Tests.{by-test, by-order}
 use Rattle.rules.proofs.Feed.{step-line-feed, finish-refused}
 use Rattle.rules.proofs.Calls.{open-refused, within-true, grant-call-refused, release-call-refused, unfinished-24, unfinished-done, state-of, feed-24, feed-done}
-use Rattle.watcher.specs.Calls.{Opens, Grants, Releases, Asks, Feeds}
+use Rattle.watcher.specs.Calls.{OpenCall, GrantCall, ReleaseCall, UnfinishedCall, FeedCall}
 
 done-is : {m n : ℕ} → Path Answer (Done m) (Done n) → m ≡ n
 done-is e = cc
@@ -29,7 +29,7 @@ done-not e = let z : _≡_ {A = ℕ} 0 1 = cc in omega arith
 
 -- 21, 22, 23
 module _ {shadow table : List ℕ} {R Q : ℕ} {r : Opened} {shadow-after table-after : List ℕ} where
-  pub open-refused-keeps : Opens shadow table R Q r shadow-after table-after → r .status ≢ 0
+  pub open-refused-keeps : OpenCall shadow table R Q r shadow-after table-after → r .status ≢ 0
       → (r .session ≡ closed) × (shadow-after ≡ shadow) × (table-after ≡ table)
   open-refused-keeps o refused =
       let kept : (open-with shadow table R Q .given .session ≡ closed) × (open-with shadow table R Q .shadow ≡ shadow) × (open-with shadow table R Q .table ≡ table) =
@@ -38,13 +38,15 @@ module _ {shadow table : List ℕ} {R Q : ℕ} {r : Opened} {shadow-after table-
 
 -- 05, 06 and 24 of a grant; 07, 08 and 24 of a release
 module _ {session : Session} {shadow table : List ℕ} {n : ℕ} {r : Answer} {shadow-after table-after : List ℕ} where
-  pub grant-refused-keeps : Grants session shadow table n r shadow-after table-after → status r ≢ 0 → (shadow-after ≡ shadow) × (table-after ≡ table)
+  pub grant-refused-keeps : GrantCall session shadow table n r shadow-after table-after → status r ≢ 0
+      → (shadow-after ≡ shadow) × (table-after ≡ table)
   grant-refused-keeps g refused =
       let kept : (grant-call session shadow table n .shadow ≡ shadow) × (grant-call session shadow table n .table ≡ table) =
       grant-call-refused session shadow table n (λ e. refused (ap status (g .answer) ∙ e)) in
       (g .shadow ∙ kept .0, g .table ∙ kept .1)
 
-  pub release-refused-keeps : Releases session shadow table n r shadow-after table-after → status r ≢ 0 → (shadow-after ≡ shadow) × (table-after ≡ table)
+  pub release-refused-keeps : ReleaseCall session shadow table n r shadow-after table-after → status r ≢ 0
+      → (shadow-after ≡ shadow) × (table-after ≡ table)
   release-refused-keeps g refused =
       let kept : (release-call session shadow table n .shadow ≡ shadow) × (release-call session shadow table n .table ≡ table) =
       release-call-refused session shadow table n (λ e. refused (ap status (g .answer) ∙ e)) in
@@ -52,7 +54,7 @@ module _ {session : Session} {shadow table : List ℕ} {n : ℕ} {r : Answer} {s
 
 -- a length that is answered is 0 to 19
 module _ {session : Session} {n : ℕ} where
-  pub asked-length : Asks session (Done n) → n ≤ too-long
+  pub asked-length : UnfinishedCall session (Done n) → n ≤ too-long
   asked-length asks =
       by-test (within-limits session)
       (λ within.
@@ -62,7 +64,8 @@ module _ {session : Session} {n : ℕ} where
 
 -- 24 gives the session back, takes no byte and writes none
 module _ {session : Session} {shadow table piece room : List ℕ} {r : Fed} {shadow-after table-after room-after : List ℕ} where
-  pub feed-refused-keeps : Feeds session shadow table piece room r shadow-after table-after room-after → r .status ≢ 0
+  pub feed-refused-keeps : FeedCall session shadow table piece room r shadow-after table-after room-after
+      → r .status ≢ 0
       → (r ≡ record { session = session; status = 24; taken = 0; wrote = 0 })
       × (shadow-after ≡ shadow)
       × (table-after ≡ table)
@@ -96,7 +99,7 @@ line-ran st room P stays acts =
 
 -- 01 to 09: a line feed that ends a refused line changes neither shadow nor table
 module _ {session : Session} {shadow table room : List ℕ} {r : Fed} {shadow-after table-after room-after : List ℕ} where
-  pub line-refused-keeps : Feeds session shadow table (line-feed ∷ []) room r shadow-after table-after room-after
+  pub line-refused-keeps : FeedCall session shadow table (line-feed ∷ []) room r shadow-after table-after room-after
       → status (act-line (state-of session shadow table) .answer) ≢ 0 → (shadow-after ≡ shadow) × (table-after ≡ table)
   line-refused-keeps f refused =
       let st : State = state-of session shadow table in

@@ -10,7 +10,7 @@ use rules::limits::ROW_NUMBERS;
 ghost use mathlib.Core.Path.{_≡_};
 ghost use Rattle.rules.specs.Answers.{status};
 ghost use Rattle.rules.specs.Calls.{closed};
-ghost use Rattle.watcher.specs.Calls.{Opens, Grants, Releases, Accesses, Asks, Feeds};
+ghost use Rattle.watcher.specs.Calls.{OpenCall, GrantCall, ReleaseCall, AccessCall, UnfinishedCall, FeedCall};
 
 fn not_opened(answer: Answer) -> Opened
     ensures { λ r. ⌜ r ≡ record { session = closed; status = status answer } ⌝ }
@@ -24,7 +24,8 @@ fn not_opened(answer: Answer) -> Opened
 // Refused 21, 22, 23 in that order, with the closed session and nothing written; else the shadow is fa throughout, the
 // table zeros, and the session fresh.
 pub fn open(shadow: &mut [u8], table: &mut [u32], redzone: usize, quarantine: u32) -> Opened
-    ensures { λ r. ⌜ Opens (now (shadow .entry)) (now (table .entry)) redzone quarantine r (now (shadow .exit)) (now (table .exit)) ⌝ }
+    ensures { λ r. ⌜ OpenCall (now (shadow .entry)) (now (table .entry)) redzone quarantine
+        r (now (shadow .exit)) (now (table .exit)) ⌝ }
 {
     let granules = shadow.len();
     let numbers = table.len();
@@ -48,7 +49,8 @@ pub fn open(shadow: &mut [u8], table: &mut [u32], redzone: usize, quarantine: u3
 
 // As the frame 01 answers.
 pub fn grant(session: Session, shadow: &mut [u8], table: &mut [u32], size: u32) -> Answer
-    ensures { λ r. ⌜ Grants session (now (shadow .entry)) (now (table .entry)) size r (now (shadow .exit)) (now (table .exit)) ⌝ }
+    ensures { λ r. ⌜ GrantCall session (now (shadow .entry)) (now (table .entry)) size
+        r (now (shadow .exit)) (now (table .exit)) ⌝ }
 {
     if !session::fits_lent(session, shadow, table) {
         return Answer::BadSession;
@@ -58,7 +60,8 @@ pub fn grant(session: Session, shadow: &mut [u8], table: &mut [u32], size: u32) 
 
 // As the frame 02 answers.
 pub fn release(session: Session, shadow: &mut [u8], table: &mut [u32], address: u32) -> Answer
-    ensures { λ r. ⌜ Releases session (now (shadow .entry)) (now (table .entry)) address r (now (shadow .exit)) (now (table .exit)) ⌝ }
+    ensures { λ r. ⌜ ReleaseCall session (now (shadow .entry)) (now (table .entry)) address
+        r (now (shadow .exit)) (now (table .exit)) ⌝ }
 {
     if !session::fits_lent(session, shadow, table) {
         return Answer::BadSession;
@@ -68,7 +71,7 @@ pub fn release(session: Session, shadow: &mut [u8], table: &mut [u32], address: 
 
 // As the frames 03 and 04 answer: reads and writes are judged alike.
 pub fn access(session: Session, shadow: &[u8], table: &[u32], address: u32, length: u32) -> Answer
-    ensures { λ r. ⌜ Accesses session (now (shadow .entry)) (now (table .entry)) address length r ⌝ }
+    ensures { λ r. ⌜ AccessCall session (now (shadow .entry)) (now (table .entry)) address length r ⌝ }
 {
     if !session::fits_lent(session, shadow, table) {
         return Answer::BadSession;
@@ -78,7 +81,7 @@ pub fn access(session: Session, shadow: &[u8], table: &[u32], address: u32, leng
 
 // The length of the unfinished line, 0 to 19.
 pub fn unfinished(session: Session) -> Answer
-    ensures { λ r. ⌜ Asks session r ⌝ }
+    ensures { λ r. ⌜ UnfinishedCall session r ⌝ }
 {
     if !session::within_limits(session) {
         return Answer::BadSession;
@@ -97,7 +100,9 @@ pub fn feed(
     piece: &[u8],
     room: &mut [u8],
 ) -> Fed
-    ensures { λ r. ⌜ Feeds session (now (shadow .entry)) (now (table .entry)) (now (piece .entry)) (now (room .entry)) r (now (shadow .exit)) (now (table .exit)) (now (room .exit)) ⌝ }
+    ensures { λ r. ⌜ FeedCall session (now (shadow .entry)) (now (table .entry))
+        (now (piece .entry)) (now (room .entry))
+        r (now (shadow .exit)) (now (table .exit)) (now (room .exit)) ⌝ }
 {
     if !session::fits_lent(session, shadow, table) {
         return Fed {

@@ -42,7 +42,7 @@ use Rattle.rules.specs.declared.Counts.{Counts}
 use Rattle.rules.proofs.Session as S
 use Rattle.rules.proofs.Counts as N
 use Rattle.rules.proofs.Counts.Laws as N′
-use Rattle.lent.specs.Calls.{FeedsInPlace}
+use Rattle.lent.specs.Calls.{FeedInPlaceCall}
 use Rattle.lent.proofs.Walk.{cell, pair-of, local-of, address, with-length, sets, gone}
 use Rattle.lent.proofs.feed_in_place as feed
 use Rattle.lent.proofs.feed_in_place.Symbol as feed-def
@@ -94,7 +94,9 @@ module _ {M : Type 1} (𝓤 : URA M) (H : Heap 𝓤) (A : Atoms 𝓤) (W : Given
 
   -- what its contract says of what it handed back and left
   abbrev Said : Counts → Lasts → Type 0
-  Said counts z = FeedsInPlace session (now shadow) (now table) (now piece) (now room) counts (z .0) (z .1 .0) (z .1 .1 .0) (z .1 .1 .1 .1 .0)
+  Said counts z =
+      FeedInPlaceCall session (now shadow) (now table) (now piece) (now room)
+      counts (z .0) (z .1 .0) (z .1 .1 .0) (z .1 .1 .1 .1 .0)
 
   abbrev left : Counts → Val → Lasts → List (Item 𝓤)
   left counts v z =

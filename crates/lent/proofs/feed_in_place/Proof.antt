@@ -49,7 +49,7 @@ use Rattle.rules.proofs.Fed as F
 use Rattle.rules.proofs.Fed.Laws as F′
 use Rattle.rules.proofs.Counts as N
 use Rattle.rules.proofs.Counts.Laws as N′
-use Rattle.watcher.specs.Calls.{Feeds}
+use Rattle.watcher.specs.Calls.{FeedCall}
 use Rattle.watcher.proofs.feed as feed
 use Rattle.watcher.proofs.feed.Symbol as feed-def
 use Rattle.watcher.proofs.feed.Symbol.{name as #watcher·feed}
@@ -109,7 +109,8 @@ module _ {M : Type 1} (𝓤 : URA M) (H : Heap 𝓤) (A : Atoms 𝓤) (W : Given
 
   -- what its contract says of what it handed back and left
   abbrev Said : Fed → Lasts → Type 0
-  Said fed z = Feeds session (now shadow) (now table) (now piece) (now room) fed (z .1 .0) (z .1 .1 .0) (z .1 .1 .1 .1 .0)
+  Said fed z =
+      FeedCall session (now shadow) (now table) (now piece) (now room) fed (z .1 .0) (z .1 .1 .0) (z .1 .1 .1 .1 .0)
 
   abbrev counted : Fed → Val
   counted fed = LL.val N.the-type N′.the-laws (counts-of fed)

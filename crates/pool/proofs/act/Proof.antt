@@ -5,7 +5,7 @@ use denote.Ref.{now}
 use borrow.Author.Needs.{needs}
 use Rattle.rules.specs.declared.Answer.{Answer}
 use Rattle.rules.specs.declared.Frame.{Frame}
-use Rattle.rules.specs.Grant.{Acted, kept}
+use Rattle.rules.specs.Grant.{Acted, unchanged}
 use Rattle.rules.specs.Feed.{act}
 use Rattle.rules.proofs.Calls.{lent-granules}
 use Rattle.pool.proofs.act.Statement.{statement}
@@ -16,7 +16,7 @@ abbrev rule : tie.After-slice-known2 → Frame → Acted
 rule c = act (c .before .before .args .session) (now (c .before .before .args .shadow)) (now (c .before .before .args .table))
 
 abbrev keeping : tie.After-slice-known2 → Answer → Acted
-keeping c answer = kept answer (now (c .before .before .args .shadow)) (now (c .before .before .args .table))
+keeping c answer = unchanged answer (now (c .before .before .args .shadow)) (now (c .before .before .args .table))
 
 enum-known-frame : tie.Need-enum-known-frame
 enum-known-frame c = search needs

@@ -11,7 +11,7 @@ use Rattle.rules.specs.Limits.{granule, live}
 use Rattle.rules.specs.Lowest.{answered}
 use Rattle.rules.specs.Put.{put}
 use Rattle.rules.specs.Table.{put-row}
-use Rattle.rules.specs.Grant.{kept, counted, granules, granted, place, empty-row, grant-at}
+use Rattle.rules.specs.Grant.{acted, counted, granules, granted, place, empty-row, grant-at}
 use Rattle.rules.proofs.Lowest.{below-all, answered-one, answered-nothing}
 use Rattle.rules.proofs.Grant.{length-granted, place-inside, place-fits, empty-row-some, grant-no-row, grant-no-place, grant-done}
 use Rattle.rules.proofs.Calls.{lent-granules, lent-redzone}
@@ -159,7 +159,7 @@ returns-3 c =
     let table = now (start .args .table) in
     let i = Row (Asked found) .row .given .0 .0 in
     let p = found .place2 .given .0 .0 in
-    ap₂ (kept (Done (granule * p)))
+    ap₂ (acted (Done (granule * p)))
     (painted .grant .ensures ∙ ap (λ s. put shadow p (granted s)) (counted-is (Asked found)))
     (stored .put-row .ensures ∙ ap (λ s. put-row table i p s live 0) (counted-is (Asked found)))
     ∙ sym (grant-done (start .args .session .redzone) shadow table (start .args .size) i p (row-is (Row (Asked found))) (place-is found))

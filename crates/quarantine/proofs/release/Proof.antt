@@ -9,7 +9,7 @@ use Rattle.rules.specs.declared.Answer.{Answer}
 use Rattle.rules.specs.declared.Answer.the-variants.{Done, NotHeld, Released}
 use Rattle.rules.specs.Limits.{live, quarantined}
 use Rattle.rules.specs.Lowest.{found}
-use Rattle.rules.specs.Grant.{kept}
+use Rattle.rules.specs.Grant.{acted, unchanged}
 use Rattle.rules.specs.Release.{row-at, settle, release-row, release}
 use Rattle.rules.proofs.Tests.{by-found}
 use Rattle.rules.proofs.Lowest.{answered-one, answered-nothing}
@@ -68,7 +68,7 @@ again-is c = ap (λ s. s .again) (c .survey .ensures)
 refused : (c : tie.After-enum-told) (answer : Answer)
     → ((i : ℕ) → quarantined-row (c .before .before) ≡ some i → answer ≡ Released)
     → (quarantined-row (c .before .before) ≡ none → answer ≡ NotHeld)
-    → kept answer (now (start (c .before .before) .args .shadow)) (now (start (c .before .before) .args .table))
+    → unchanged answer (now (start (c .before .before) .args .shadow)) (now (start (c .before .before) .args .table))
     ≡ release (start (c .before .before) .args .redzone) (start (c .before .before) .args .quarantine) (now (start (c .before .before) .args .shadow))
     (now (start (c .before .before) .args .table)) (start (c .before .before) .args .address)
 refused c answer again never =
@@ -79,10 +79,10 @@ refused c answer again never =
     let table = now (from .args .table) in
     by-found (quarantined-row surveyed)
     (λ i e.
-    ap (λ a. kept a shadow table) (again i e)
+    ap (λ a. unchanged a shadow table) (again i e)
     ∙ sym (release-twice (from .args .redzone) (from .args .quarantine) shadow table (from .args .address) i (else .if1 .left) (live-none c) e))
     (λ e.
-    ap (λ a. kept a shadow table) (never e)
+    ap (λ a. unchanged a shadow table) (never e)
     ∙ sym (release-foreign (from .args .redzone) (from .args .quarantine) shadow table (from .args .address) (else .if1 .left) (live-none c) e))
 
 same-length : tie.Need-same-length
@@ -140,7 +140,8 @@ returns-4 c =
     let Q = start .args .quarantine in
     let shadow = now (start .args .shadow) in
     let table = now (start .args .table) in
-    ap (λ s. kept (Done (s .evicted)) (s .pool .shadow) (s .pool .table)) (done .settle .ensures ∙ ap (settle R Q) (entered .quarantine-row .ensures .pool-after))
+    ap (λ s. acted (Done (s .evicted)) (s .pool .shadow) (s .pool .table))
+    (done .settle .ensures ∙ ap (settle R Q) (entered .quarantine-row .ensures .pool-after))
     ∙ sym (release-done R Q shadow table (start .args .address) (told .live .given .0 .0) (else .if1 .left) (live-some told))
 
 pub release-spec : {M : Type 1} → statement M

@@ -9,7 +9,7 @@ use Rattle.rules.specs.Answers.{status, in-numbers}
 use Rattle.rules.proofs.Tests.{denied, passed}
 use Rattle.rules.proofs.Calls.{lent-true, feed-24, feed-done}
 use Rattle.trace.specs.Feed.{fed}
-use Rattle.watcher.proofs.Calls.{feeds-is}
+use Rattle.watcher.proofs.Calls.{feed-call-is}
 use Rattle.watcher.proofs.feed.Statement.{statement}
 use Rattle.watcher.proofs.feed.Tie as tie
 
@@ -38,7 +38,7 @@ returns c =
     let table = now (start .args .table) in
     let room = now (start .args .room) in
     let fails = denied (test .before .fits-lent .ensures) (test .if1 .taken) in
-    feeds-is
+    feed-call-is
     (ap (λ number. fed (nothing (start .args .session) number) shadow table room) (c .status-of .ensures)
     ∙ sym (feed-24 (start .args .session) shadow table (now (start .args .piece)) room fails))
 
@@ -61,7 +61,7 @@ returns-2 c =
     let done = c .before .before .before .before .before .before in
     let test = done .before .before .before .before in
     let passes = passed (test .before .fits-lent .ensures) (test .if1 .left) in
-    feeds-is (done .feed .ensures ∙ sym (feed-done _ _ _ _ _ passes))
+    feed-call-is (done .feed .ensures ∙ sym (feed-done _ _ _ _ _ passes))
 
 pub feed-spec : {M : Type 1} → statement M
 feed-spec =

@@ -5,7 +5,7 @@ use borrow.Author.Needs.{needs}
 use Rattle.rules.specs.Calls.{grant-call}
 use Rattle.rules.proofs.Tests.{if-true, denied, passed}
 use Rattle.rules.proofs.Calls.{lent-true, grant-24}
-use Rattle.watcher.proofs.Calls.{grants-is}
+use Rattle.watcher.proofs.Calls.{grant-call-is}
 use Rattle.watcher.proofs.grant.Statement.{statement}
 use Rattle.watcher.proofs.grant.Tie as tie
 
@@ -13,7 +13,9 @@ returns : tie.Need-returns
 returns c =
     let start = c .before .before .before .before .before .before in
     let fails = denied (c .before .fits-lent .ensures) (c .if1 .taken) in
-    grants-is (sym (grant-24 (start .args .session) (now (start .args .shadow)) (now (start .args .table)) (start .args .size) fails))
+    let shadow = now (start .args .shadow) in
+    let table = now (start .args .table) in
+    grant-call-is (sym (grant-24 (start .args .session) shadow table (start .args .size) fails))
 
 grant-requires : tie.Need-grant-requires
 grant-requires c κs =
@@ -26,7 +28,7 @@ returns-2 c =
     let done = c .before .before .before .before in
     let test = done .before .before .before in
     let passes = passed (test .before .fits-lent .ensures) (test .if1 .left) in
-    grants-is (done .grant .ensures ∙ sym (if-true _ _ passes))
+    grant-call-is (done .grant .ensures ∙ sym (if-true _ _ passes))
 
 pub grant-spec : {M : Type 1} → statement M
 grant-spec =

@@ -10,7 +10,7 @@ use Rattle.rules.specs.Limits.{between, least-granules, most-granules, least-re
 use Rattle.rules.specs.Calls.{table-length}
 use Rattle.rules.proofs.Tests.{denied, passed}
 use Rattle.rules.proofs.Calls.{open-bad-shadow, open-bad-redzone, open-bad-table, opened-with, open-done}
-use Rattle.watcher.proofs.Calls.{opened, opens-is}
+use Rattle.watcher.proofs.Calls.{opened, open-call-is}
 use Rattle.watcher.proofs.open.Statement.{statement}
 use Rattle.watcher.proofs.open.Tie as tie
 
@@ -46,7 +46,7 @@ returns c =
     let at = test .before in
     let start = Start at in
     let fails = denied (at .granules-within .ensures) (test .if1 .taken) in
-    opens-is
+    open-call-is
     (ap (λ given. opened given (shadow-of at) (table-of at)) (c .not-opened .ensures)
     ∙ sym (open-bad-shadow (shadow-of at) (table-of at) (start .args .redzone) (start .args .quarantine) fails))
 
@@ -63,7 +63,7 @@ returns-2 c =
     let at = one .before in
     let start = Start at in
     let fails = denied (test .before .redzone-within .ensures) (test .if2 .taken) in
-    opens-is
+    open-call-is
     (ap (λ given. opened given (shadow-of at) (table-of at)) (c .not-opened2 .ensures)
     ∙ sym (open-bad-redzone (shadow-of at) (table-of at) (start .args .redzone) (start .args .quarantine) (granules-pass one) fails))
 
@@ -81,7 +81,7 @@ returns-3 c =
     let at = one .before in
     let start = Start at in
     let fails = denied (test .before .table-length .ensures) (test .if3 .taken) in
-    opens-is
+    open-call-is
     (ap (λ given. opened given (shadow-of at) (table-of at)) (c .not-opened3 .ensures)
     ∙ sym (open-bad-table (shadow-of at) (table-of at) (start .args .redzone) (start .args .quarantine) (granules-pass one) (redzone-passes two) fails))
 
@@ -115,7 +115,7 @@ returns-4 c =
     let start = Start at in
     let shadow = covered .cover .last .0 in
     let table = cleared .clear .last .0 in
-    opens-is
+    open-call-is
     (ap₂ (λ session status. opened (record { session = session; status = status }) shadow table) (made .fresh .ensures) (c .status-of .ensures)
     ∙ ap₂ (opened (opened-with (shadow-of at) (table-of at) (start .args .redzone) (start .args .quarantine) .given)) (covered .cover .ensures) (cleared .clear .ensures)
     ∙ sym (open-done (shadow-of at) (table-of at) (start .args .redzone) (start .args .quarantine) (granules-pass one) (redzone-passes two) (table-passes three)))

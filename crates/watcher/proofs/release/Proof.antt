@@ -5,7 +5,7 @@ use borrow.Author.Needs.{needs}
 use Rattle.rules.specs.Calls.{release-call}
 use Rattle.rules.proofs.Tests.{if-true, denied, passed}
 use Rattle.rules.proofs.Calls.{lent-true, release-24}
-use Rattle.watcher.proofs.Calls.{releases-is}
+use Rattle.watcher.proofs.Calls.{release-call-is}
 use Rattle.watcher.proofs.release.Statement.{statement}
 use Rattle.watcher.proofs.release.Tie as tie
 
@@ -13,7 +13,9 @@ returns : tie.Need-returns
 returns c =
     let start = c .before .before .before .before .before .before in
     let fails = denied (c .before .fits-lent .ensures) (c .if1 .taken) in
-    releases-is (sym (release-24 (start .args .session) (now (start .args .shadow)) (now (start .args .table)) (start .args .address) fails))
+    let shadow = now (start .args .shadow) in
+    let table = now (start .args .table) in
+    release-call-is (sym (release-24 (start .args .session) shadow table (start .args .address) fails))
 
 release-requires : tie.Need-release-requires
 release-requires c κs =
@@ -26,7 +28,7 @@ returns-2 c =
     let done = c .before .before .before .before in
     let test = done .before .before .before in
     let passes = passed (test .before .fits-lent .ensures) (test .if1 .left) in
-    releases-is (done .release .ensures ∙ sym (if-true _ _ passes))
+    release-call-is (done .release .ensures ∙ sym (if-true _ _ passes))
 
 pub release-spec : {M : Type 1} → statement M
 release-spec =
