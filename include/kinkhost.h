@@ -20,31 +20,68 @@
  * That is proved for the Rattle functions that these are compiled from; the compiler, and the C on your side of the
  * call, are not part of the proof.
  *
- * The answers, checked in this order (07 and 08 for releases only, 09 for accesses only). Statuses are decimal.
- *
- *   00  done                                                       kind 0; the address, the count evicted, or 0
- *   01  the line is not 18 hex digits                              kind 0, value 0
- *   02  the kind is not 01 to 04                                   kind 0, value 0
- *   03  B is not zero in a grant or a release                      kind 0, value 0
- *   05  grant, no row is empty                                     kind 0, value 0
- *   06  grant, no start exists                                     kind 0, value 0
- *   07  release, address not 0, no live or quarantined row starts there        kind 0, value 0
- *   08  release, address not 0, no live row but a quarantined one starts there kind 0, value 0
- *   09  the access is not good             kind: the shadow byte, or ff outside the arena; value: the first bad byte
- *   21  opening: the shadow's length is not 8 to 65,536
- *   22  opening: the redzone is not 2 to 256
- *   23  opening: the table's length is not 4 to 4,096, or not a multiple of 4
- *   24  any later call: the session is closed, the lent lengths are not the session's, or one of its fields is outside
- *       its limits
- *   31  map: the address is beyond the map's last
- *   32  map: the address is in the gap
- *
- * None of 01 to 24 changes a byte of the shadow or a number of the table. */
+ * The paper's numbers have names below. In a comment a status is its two decimal digits. */
 #ifndef KINKHOST_H
 #define KINKHOST_H
 
 #include <stddef.h>
 #include <stdint.h>
+
+/* Names for the paper's numbers: macros and not enumerators, so that #if can ask them, and so that C++ multiplies one
+ * with an enumerator of the caller's, ROWS * KINKHOST_ROW_NUMBERS, without a warning. */
+
+/* The statuses, checked in this order (07 and 08 for releases only, 09 for accesses only). The kind is 0 with all but
+ * 09, the value with all but 00 and 09. None of 01 to 24 changes a byte of the shadow or a number of the table. */
+#define KINKHOST_DONE 0               /* 00; the value is the address, the count evicted, the length, or 0 */
+#define KINKHOST_BAD_LINE 1           /* 01, the line is not 18 hex digits */
+#define KINKHOST_BAD_KIND 2           /* 02, the frame's kind is not 01 to 04 */
+#define KINKHOST_NOT_ZERO 3           /* 03, B is not zero in a grant or a release */
+#define KINKHOST_NO_ROW 5             /* 05, grant: no row is empty */
+#define KINKHOST_NO_PLACE 6           /* 06, grant: no start exists */
+#define KINKHOST_NOT_HELD 7           /* 07, release: address not 0, no live or quarantined row starts there */
+#define KINKHOST_RELEASED 8           /* 08, release: address not 0, no live row but a quarantined one starts there */
+#define KINKHOST_NOT_GOOD 9           /* 09, access; the value is the first bad byte, the kind its shadow byte, or ff */
+#define KINKHOST_BAD_SHADOW_LENGTH 21 /* 21, opening: the shadow's length is not 8 to 65,536 */
+#define KINKHOST_BAD_REDZONE 22       /* 22, opening: the redzone is not 2 to 256 */
+#define KINKHOST_BAD_TABLE_LENGTH 23  /* 23, opening: the table's length is not 4 to 4,096, or not a multiple of 4 */
+#define KINKHOST_BAD_SESSION 24       /* 24, any later call: the session is closed, the lent lengths are not the
+                                         session's, or one of its fields is outside its limits */
+#define KINKHOST_BEYOND_MAP 31        /* 31, map: the address is beyond the map's last */
+#define KINKHOST_IN_GAP 32            /* 32, map: the address is in the gap */
+
+/* A granule in bytes, and the limits of S, of the rows and of R in granules. */
+#define KINKHOST_GRANULE 8
+#define KINKHOST_LEAST_GRANULES 8
+#define KINKHOST_MOST_GRANULES 65536
+#define KINKHOST_LEAST_ROWS 1
+#define KINKHOST_MOST_ROWS 1024
+#define KINKHOST_LEAST_REDZONE 2
+#define KINKHOST_MOST_REDZONE 256
+
+/* How many numbers a row is: a table of n rows has n * KINKHOST_ROW_NUMBERS. Then the columns, and the states. */
+#define KINKHOST_ROW_NUMBERS 4
+#define KINKHOST_START_COLUMN 0 /* in granules */
+#define KINKHOST_SIZE_COLUMN 1  /* in bytes */
+#define KINKHOST_STATE_COLUMN 2
+#define KINKHOST_TURN_COLUMN 3
+#define KINKHOST_EMPTY 0
+#define KINKHOST_LIVE 1
+#define KINKHOST_QUARANTINED 2
+
+/* Shadow bytes: redzone or room not held; released and quarantined. Then the kind of a byte outside the arena. */
+#define KINKHOST_REDZONE_BYTE 0xfa
+#define KINKHOST_RELEASED_BYTE 0xfd
+#define KINKHOST_OUTSIDE 0xff
+
+/* Text: the digits of a frame, the length that stands for every longer unfinished line, and the bytes of an answer in
+ * the report, its line feed among them. Then the frame kinds. */
+#define KINKHOST_FRAME_DIGITS 18
+#define KINKHOST_TOO_LONG 19
+#define KINKHOST_ANSWER_BYTES 13
+#define KINKHOST_KIND_GRANT 1
+#define KINKHOST_KIND_RELEASE 2
+#define KINKHOST_KIND_READ 3
+#define KINKHOST_KIND_WRITE 4
 
 #ifdef __cplusplus
 extern "C" {

@@ -13,27 +13,27 @@
 
 #include "kinkhost.h"
 
-/* The pool of the paper's night; another one is -DGRANULES=.. and so on. */
+/* The pool of the paper's night; another one is -DGRANULES=.. and so on, between the header's limits. */
 #ifndef GRANULES
-#define GRANULES 16 /* S, 8 to 65,536 */
+#define GRANULES 16 /* S */
 #endif
 #ifndef REDZONE
-#define REDZONE 2 /* R in granules, 2 to 256 */
+#define REDZONE 2 /* R, in granules */
 #endif
 #ifndef QUARANTINE
-#define QUARANTINE 16 /* Q in bytes */
+#define QUARANTINE 16 /* Q, in bytes */
 #endif
 #ifndef ROWS
-#define ROWS 4 /* 1 to 1,024 */
+#define ROWS 4
 #endif
 
-enum { ANSWER = 13, PIECE = 50, ROOM = 2 * ANSWER };
+enum { NUMBERS = ROWS * KINKHOST_ROW_NUMBERS, PIECE = 50, ROOM = 2 * KINKHOST_ANSWER_BYTES };
 enum outcome { DONE = 0, NOT_DONE = 1, FAILED = 2 };
 
 /* All that a watcher works on. The library keeps nothing of it from one call to the next. */
 struct pool {
     uint8_t shadow[GRANULES];
-    uint32_t table[4 * ROWS];
+    uint32_t table[NUMBERS];
     struct kinkhost_session session;
 };
 
@@ -52,9 +52,15 @@ static enum outcome refused(const char *what, unsigned status)
 static enum outcome open_pool(struct pool *pool)
 {
     struct kinkhost_opened opened =
-        kinkhost_open(pool->shadow, GRANULES, pool->table, 4 * ROWS, REDZONE, QUARANTINE);
+        kinkhost_open(pool->shadow, GRANULES, pool->table, NUMBERS, REDZONE, QUARANTINE);
     pool->session = opened.session;
-    return opened.status == 0 ? DONE : refused("opening", opened.status);
+    return opened.status == KINKHOST_DONE ? DONE : refused("opening", opened.status);
+}
+
+/* The status of an answer in the report, its first two digits. */
+static int status_of(const uint8_t *answer)
+{
+    return (answer[0] - '0') * 10 + (answer[1] - '0');
 }
 
 /* Feeds one piece. Each call is offered what the one before it did not take; the room holds an answer at least, so that
@@ -65,13 +71,13 @@ static enum outcome feed(struct pool *pool, const uint8_t *piece, size_t length)
     while (length > 0) {
         uint8_t room[ROOM];
         struct kinkhost_counts fed = kinkhost_feed_in_place(&pool->session, pool->shadow, GRANULES, pool->table,
-                                                            4 * ROWS, piece, length, room, sizeof room);
-        if (fed.status != 0)
+                                                            NUMBERS, piece, length, room, sizeof room);
+        if (fed.status != KINKHOST_DONE)
             return refused("a piece", fed.status);
         piece += fed.taken;
         length -= fed.taken;
-        for (size_t answer = 0; answer < fed.wrote; answer += ANSWER)
-            if (memcmp(room + answer, "00", 2) != 0)
+        for (size_t answer = 0; answer < fed.wrote; answer += KINKHOST_ANSWER_BYTES)
+            if (status_of(room + answer) != KINKHOST_DONE)
                 outcome = NOT_DONE;
         if (fwrite(room, 1, fed.wrote, stdout) != fed.wrote)
             return failed("the report cannot be written");
@@ -106,12 +112,12 @@ static void show(const char *call, struct kinkhost_reply reply)
 /* The same watcher without text: a grant, an access one past it, a release. */
 static enum outcome direct_calls(struct pool *pool)
 {
-    struct kinkhost_reply block = kinkhost_grant(pool->session, pool->shadow, GRANULES, pool->table, 4 * ROWS, 13);
+    struct kinkhost_reply block = kinkhost_grant(pool->session, pool->shadow, GRANULES, pool->table, NUMBERS, 13);
     show("grant of 13 bytes:", block);
-    show("read of 1 byte one past it:", kinkhost_access(pool->session, pool->shadow, GRANULES, pool->table, 4 * ROWS,
+    show("read of 1 byte one past it:", kinkhost_access(pool->session, pool->shadow, GRANULES, pool->table, NUMBERS,
                                                         block.value + 13, 1));
     show("release of it:",
-         kinkhost_release(pool->session, pool->shadow, GRANULES, pool->table, 4 * ROWS, block.value));
+         kinkhost_release(pool->session, pool->shadow, GRANULES, pool->table, NUMBERS, block.value));
     return ferror(stderr) ? FAILED : DONE;
 }
 

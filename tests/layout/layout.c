@@ -29,9 +29,10 @@ uint64_t raw_unfinished(struct raw_session) __asm__("kinkhost_unfinished");
 struct raw_pair raw_map32(uint64_t) __asm__("kinkhost_map32");
 struct raw_pair raw_map64(uint64_t) __asm__("kinkhost_map64");
 
-/* Values that no two fields share. Redzone 256 is the only one that each change of a single byte breaks. A session
- * lent in place is at LENT of its memory. */
-enum { GRANULES = 24, ROWS = 5, REDZONE = 256, MEMORY = 256, LENT = 96, FIELDS = 6, ANSWER = 13 };
+/* Values that no two fields share. The most redzone is the only one that each change of a single byte breaks; under
+ * the least, NEAR, the first block is at FIRST. A session lent in place is at LENT of its memory. */
+enum { GRANULES = 24, ROWS = 5, NUMBERS = ROWS * KINKHOST_ROW_NUMBERS, REDZONE = KINKHOST_MOST_REDZONE };
+enum { NEAR = KINKHOST_LEAST_REDZONE, FIRST = NEAR * KINKHOST_GRANULE, MEMORY = 256, LENT = 96, FIELDS = 6 };
 #define QUARANTINE 0xa1b2c3d4u
 
 struct field {
@@ -56,7 +57,7 @@ static const struct field in_mapped[] = { FIELD(kinkhost_mapped, status), FIELD(
                                           FIELD(kinkhost_mapped, shadow) };
 
 static uint8_t shadow[GRANULES], room[MEMORY];
-static uint32_t table[4 * ROWS];
+static uint32_t table[NUMBERS];
 static unsigned facts, wrong;
 
 static void fact(int holds, const char *what, const char *name, size_t at)
@@ -124,17 +125,17 @@ static void look_at_opened(void)
     static const struct kinkhost_session closed;
     fill(memory);
     for (int i = 0; i < 2; i++) {
-        raw_open(memory[i], shadow, GRANULES, table, 4 * ROWS, REDZONE, QUARANTINE);
+        raw_open(memory[i], shadow, GRANULES, table, NUMBERS, REDZONE, QUARANTINE);
         holds_session("opened", memory[i] + in_opened[0].offset, REDZONE, "");
-        holds("opened", in_opened[1], memory[i], 0);
+        holds("opened", in_opened[1], memory[i], KINKHOST_DONE);
     }
     ends_at("opened", in_opened[1], sizeof(struct kinkhost_opened), memory);
     fill(memory);
     for (int i = 0; i < 2; i++) {
-        raw_open(memory[i], shadow, GRANULES, table, 4 * ROWS, REDZONE + 1, QUARANTINE);
+        raw_open(memory[i], shadow, GRANULES, table, NUMBERS, REDZONE + 1, QUARANTINE);
         for (int field = 0; field < FIELDS; field++)
             holds_bytes("refused opening", in_session[field], memory[i] + in_opened[0].offset, &closed);
-        holds("refused opening", in_opened[1], memory[i], 22);
+        holds("refused opening", in_opened[1], memory[i], KINKHOST_BAD_REDZONE);
     }
 }
 
@@ -156,12 +157,12 @@ static void look_at_fed(void)
     unsigned char memory[2][MEMORY];
     fill(memory);
     for (int i = 0; i < 2; i++) {
-        raw_feed(memory[i], laid_out(2), shadow, GRANULES, table, 4 * ROWS, (const uint8_t *)text, sizeof text - 1,
+        raw_feed(memory[i], laid_out(NEAR), shadow, GRANULES, table, NUMBERS, (const uint8_t *)text, sizeof text - 1,
                  room, sizeof room);
-        holds_session("fed", memory[i] + in_fed[0].offset, 2, "0102");
-        holds("fed", in_fed[1], memory[i], 0);
+        holds_session("fed", memory[i] + in_fed[0].offset, NEAR, "0102");
+        holds("fed", in_fed[1], memory[i], KINKHOST_DONE);
         holds("fed", in_fed[2], memory[i], sizeof text - 1);
-        holds("fed", in_fed[3], memory[i], ANSWER);
+        holds("fed", in_fed[3], memory[i], KINKHOST_ANSWER_BYTES);
     }
     ends_at("fed", in_fed[3], sizeof(struct kinkhost_fed), memory);
 }
@@ -181,7 +182,7 @@ static void feed_in_place(const char *what, unsigned char lent[2][MEMORY], const
     size_t kept = 0;
     fill(memory);
     for (int i = 0; i < 2; i++) {
-        raw_feed_in_place(memory[i], lent[i] + LENT, shadow, GRANULES, table, 4 * ROWS, (const uint8_t *)text,
+        raw_feed_in_place(memory[i], lent[i] + LENT, shadow, GRANULES, table, NUMBERS, (const uint8_t *)text,
                           strlen(text), room, sizeof room);
         for (int field = 0; field < 3; field++)
             holds(what, in_counts[field], memory[i], numbers[field]);
@@ -198,12 +199,12 @@ static void look_at_in_place(void)
     static const char *const text[2] = { "030000000000000000\nabcdefghijklmnopqr", "\n" };
     static const char *const line[2] = { "abcdefghijklmnopqr", "" };
     _Alignas(struct raw_session) unsigned char lent[2][MEMORY];
-    lay_amid_patterns(laid_out(2), lent);
+    lay_amid_patterns(laid_out(NEAR), lent);
     for (int feed = 0; feed < 2; feed++) {
-        const uint64_t numbers[3] = { 0, strlen(text[feed]), ANSWER };
+        const uint64_t numbers[3] = { KINKHOST_DONE, strlen(text[feed]), KINKHOST_ANSWER_BYTES };
         feed_in_place("counts", lent, text[feed], numbers);
         for (int i = 0; i < 2; i++)
-            holds_session("in place", lent[i] + LENT, 2, line[feed]);
+            holds_session("in place", lent[i] + LENT, NEAR, line[feed]);
     }
 }
 
@@ -211,7 +212,7 @@ static void look_at_in_place(void)
  * each byte of a field. */
 static void look_at_handed_back(void)
 {
-    static const uint64_t numbers[3] = { 24, 0, 0 };
+    static const uint64_t numbers[3] = { KINKHOST_BAD_SESSION, 0, 0 };
     struct raw_session session;
     unsigned char memory[2][MEMORY];
     _Alignas(struct raw_session) unsigned char lent[2][MEMORY];
@@ -219,11 +220,11 @@ static void look_at_handed_back(void)
         session.bytes[i] = (unsigned char)(i + 1);
     fill(memory);
     for (int i = 0; i < 2; i++) {
-        raw_feed(memory[i], session, shadow, GRANULES, table, 4 * ROWS, room, 0, room, 0);
+        raw_feed(memory[i], session, shadow, GRANULES, table, NUMBERS, room, 0, room, 0);
         for (int field = 0; field < FIELDS; field++)
             holds_bytes("handed back", in_session[field], memory[i] + in_fed[0].offset,
                         session.bytes + in_session[field].offset);
-        holds("handed back", in_fed[1], memory[i], 24);
+        holds("handed back", in_fed[1], memory[i], KINKHOST_BAD_SESSION);
         holds("handed back", in_fed[2], memory[i], 0);
         holds("handed back", in_fed[3], memory[i], 0);
     }
@@ -235,26 +236,26 @@ static void look_at_handed_back(void)
 }
 
 /* The status that each call with a lent session gives, over buffers on which no call changes anything: a piece of no
- * bytes, the same in place, a grant for which redzone 256 leaves no start, a release of 0, an access of 0 bytes. The
- * first two also give the session after the call. */
+ * bytes, the same in place, a grant for which the most redzone leaves no start, a release of 0, an access of 0 bytes.
+ * The first two also give the session after the call. */
 static unsigned status_of(int call, struct raw_session session, struct raw_session *after)
 {
     unsigned char memory[MEMORY];
     switch (call) {
     case 0:
-        raw_feed(memory, session, shadow, GRANULES, table, 4 * ROWS, room, 0, room, 0);
+        raw_feed(memory, session, shadow, GRANULES, table, NUMBERS, room, 0, room, 0);
         memcpy(after->bytes, memory + in_fed[0].offset, sizeof after->bytes);
         return memory[in_fed[1].offset];
     case 1:
         *after = session;
-        raw_feed_in_place(memory, after->bytes, shadow, GRANULES, table, 4 * ROWS, room, 0, room, 0);
+        raw_feed_in_place(memory, after->bytes, shadow, GRANULES, table, NUMBERS, room, 0, room, 0);
         return memory[in_counts[0].offset];
     case 2:
-        return raw_grant(session, shadow, GRANULES, table, 4 * ROWS, 1) >> (8 * in_reply[0].offset) & 0xff;
+        return raw_grant(session, shadow, GRANULES, table, NUMBERS, 1) >> (8 * in_reply[0].offset) & 0xff;
     case 3:
-        return raw_release(session, shadow, GRANULES, table, 4 * ROWS, 0) >> (8 * in_reply[0].offset) & 0xff;
+        return raw_release(session, shadow, GRANULES, table, NUMBERS, 0) >> (8 * in_reply[0].offset) & 0xff;
     default:
-        return raw_access(session, shadow, GRANULES, table, 4 * ROWS, 0, 0) >> (8 * in_reply[0].offset) & 0xff;
+        return raw_access(session, shadow, GRANULES, table, NUMBERS, 0, 0) >> (8 * in_reply[0].offset) & 0xff;
     }
 }
 
@@ -262,7 +263,7 @@ static unsigned status_of(int call, struct raw_session session, struct raw_sessi
  * number and comes back as it was lent; one between fields means nothing. */
 static void look_at_argument(void)
 {
-    static const unsigned good[5] = { 0, 0, 6, 0, 0 };
+    static const unsigned good[5] = { KINKHOST_DONE, KINKHOST_DONE, KINKHOST_NO_PLACE, KINKHOST_DONE, KINKHOST_DONE };
     for (int call = 0; call < 5; call++)
         for (size_t i = 0; i <= sizeof(struct kinkhost_session); i++) {
             struct raw_session session = laid_out(REDZONE), after;
@@ -273,14 +274,15 @@ static void look_at_argument(void)
                 if (i - in_session[field].offset < in_session[field].width)
                     owner = in_session[field];
             int any = owner.width == 0 || owner.offset == in_session[3].offset;
-            fact(status_of(call, session, &after) == (any ? good[call] : 24), "lent", owner.name, i);
+            fact(status_of(call, session, &after) == (any ? good[call] : KINKHOST_BAD_SESSION), "lent", owner.name, i);
             if (call < 2)
                 holds_bytes("lent", owner, after.bytes, session.bytes + owner.offset);
         }
 }
 
 /* Three fields that come in registers, whose bytes go to memory that is long enough for whatever the header says. */
-static void holds_three(const char *what, const struct field *fields, struct raw_pair registers, const uint64_t *numbers)
+static void holds_three(const char *what, const struct field *fields, struct raw_pair registers,
+                        const uint64_t *numbers)
 {
     unsigned char memory[MEMORY] = { 0 };
     memcpy(memory, &registers, sizeof registers);
@@ -296,12 +298,13 @@ static void holds_reply(const char *what, uint64_t rax, uint64_t status, uint64_
 
 static void look_at_reply(void)
 {
-    struct raw_session session = laid_out(2);
-    holds_reply("access", raw_access(session, shadow, GRANULES, table, 4 * ROWS, 0xa1b2c3d4, 1), 9, 0xff, 0xa1b2c3d4);
-    holds_reply("grant", raw_grant(session, shadow, GRANULES, table, 4 * ROWS, 1), 0, 0, 16);
-    holds_reply("release", raw_release(session, shadow, GRANULES, table, 4 * ROWS, 17), 7, 0, 0);
-    session.bytes[in_session[4].offset] = 19;
-    holds_reply("unfinished", raw_unfinished(session), 0, 0, 19);
+    struct raw_session session = laid_out(NEAR);
+    holds_reply("access", raw_access(session, shadow, GRANULES, table, NUMBERS, 0xa1b2c3d4, 1), KINKHOST_NOT_GOOD,
+                KINKHOST_OUTSIDE, 0xa1b2c3d4);
+    holds_reply("grant", raw_grant(session, shadow, GRANULES, table, NUMBERS, 1), KINKHOST_DONE, 0, FIRST);
+    holds_reply("release", raw_release(session, shadow, GRANULES, table, NUMBERS, FIRST + 1), KINKHOST_NOT_HELD, 0, 0);
+    session.bytes[in_session[4].offset] = KINKHOST_TOO_LONG;
+    holds_reply("unfinished", raw_unfinished(session), KINKHOST_DONE, 0, KINKHOST_TOO_LONG);
     fact(sizeof(struct kinkhost_reply) == sizeof(uint64_t), "reply", "its size: it comes in rax", 8);
 }
 
@@ -312,12 +315,12 @@ static void look_at_quarantine(void)
     const struct field quarantine = in_session[3];
     unsigned char opened[MEMORY];
     for (size_t i = quarantine.offset; i < in_session[4].offset; i++) {
-        struct raw_session session = laid_out(2);
+        struct raw_session session = laid_out(NEAR);
         memset(session.bytes + quarantine.offset, 0, quarantine.width);
         session.bytes[i] = 0x80;
-        raw_open(opened, shadow, GRANULES, table, 4 * ROWS, 2, 0);
-        holds_reply("quarantined", raw_grant(session, shadow, GRANULES, table, 4 * ROWS, 1), 0, 0, 16);
-        holds_reply("quarantined", raw_release(session, shadow, GRANULES, table, 4 * ROWS, 16), 0, 0,
+        raw_open(opened, shadow, GRANULES, table, NUMBERS, NEAR, 0);
+        holds_reply("quarantined", raw_grant(session, shadow, GRANULES, table, NUMBERS, 1), KINKHOST_DONE, 0, FIRST);
+        holds_reply("quarantined", raw_release(session, shadow, GRANULES, table, NUMBERS, FIRST), KINKHOST_DONE, 0,
                     i - quarantine.offset < quarantine.width ? 0 : 1);
     }
 }
@@ -330,11 +333,12 @@ static void holds_mapped(const char *what, struct raw_pair pair, uint64_t status
 
 static void look_at_mapped(void)
 {
-    holds_mapped("map32", raw_map32(0x87654321), 0, KINKHOST_HIGH_MEM, 0x30eca864);
-    holds_mapped("map32", raw_map32(UINT64_C(0x100000000)), 31, KINKHOST_NOWHERE, 0);
-    holds_mapped("map64", raw_map64(UINT64_C(0x7edcba987654)), 0, KINKHOST_HIGH_MEM, UINT64_C(0xfdc17528eca));
-    holds_mapped("map64", raw_map64(0x8fff7000), 32, KINKHOST_SHADOW_GAP, 0);
-    holds_mapped("map64", raw_map64(0x7fff8000), 0, KINKHOST_LOW_SHADOW, 0x8fff7000);
+    holds_mapped("map32", raw_map32(0x87654321), KINKHOST_DONE, KINKHOST_HIGH_MEM, 0x30eca864);
+    holds_mapped("map32", raw_map32(UINT64_C(0x100000000)), KINKHOST_BEYOND_MAP, KINKHOST_NOWHERE, 0);
+    holds_mapped("map64", raw_map64(UINT64_C(0x7edcba987654)), KINKHOST_DONE, KINKHOST_HIGH_MEM,
+                 UINT64_C(0xfdc17528eca));
+    holds_mapped("map64", raw_map64(0x8fff7000), KINKHOST_IN_GAP, KINKHOST_SHADOW_GAP, 0);
+    holds_mapped("map64", raw_map64(0x7fff8000), KINKHOST_DONE, KINKHOST_LOW_SHADOW, 0x8fff7000);
     fact(sizeof(struct kinkhost_mapped) == sizeof(struct raw_pair), "mapped", "its size: it comes in rax and rdx", 16);
 }
 

@@ -15,8 +15,10 @@
 
 #include <sanitizer/asan_interface.h>
 
-enum { MOST_GRANULES = 65536, MOST_ROWS = 1024, LEAST_REDZONE = 16, FRAME = 18, ANSWER = 12 };
-enum { GRANT = 1, RELEASE = 2, READ = 3, WRITE = 4 };
+#include "kinkhost.h" /* for the paper's numbers; nothing of the library is called */
+
+/* The least redzone in bytes, and an answer without its line feed. */
+enum { GRANULE = KINKHOST_GRANULE, REDZONE = KINKHOST_LEAST_REDZONE * GRANULE, ANSWER = KINKHOST_ANSWER_BYTES - 1 };
 
 struct block {
     uint32_t address, size;
@@ -33,12 +35,12 @@ struct step {
 };
 
 /* The arena of 8 x S bytes and, behind it, a granule that is never unpoisoned: it stands for every byte outside. */
-static _Alignas(8) unsigned char memory[8 * MOST_GRANULES + 8];
+static _Alignas(GRANULE) unsigned char memory[GRANULE * (KINKHOST_MOST_GRANULES + 1)];
 static uint64_t arena; /* its length, 8 x S */
 
-static struct block live[MOST_ROWS];
+static struct block live[KINKHOST_MOST_ROWS];
 static size_t lives;
-static unsigned char released[MOST_GRANULES]; /* granules of blocks released and not granted since */
+static unsigned char released[KINKHOST_MOST_GRANULES]; /* granules of blocks released and not granted since */
 static unsigned long good, bad, grants, releases, refusals;
 
 static void differ(const struct step *step, const char *format, ...)
@@ -83,26 +85,26 @@ static struct block *live_at(uint32_t address)
 
 static uint32_t granules_of(uint32_t size)
 {
-    return size / 8 + (size % 8 != 0);
+    return size / GRANULE + (size % GRANULE != 0);
 }
 
-/* "Every shadow byte from p - R to p + u + R - 1 equal to fa": the block and 16 bytes, the least redzone, on each side
+/* "Every shadow byte from p - R to p + u + R - 1 equal to fa": the block and the least redzone on each side
  * of its granules lie in the arena, and the runtime holds each of them poisoned. So nothing held is granted again. */
 static void grant(const struct step *step)
 {
     uint32_t size = step->a == 0 ? 1 : step->a;
-    uint64_t from = (uint64_t)step->value - LEAST_REDZONE;
-    uint64_t to = step->value + 8 * (uint64_t)granules_of(size) + LEAST_REDZONE;
-    if (step->value % 8 != 0 || step->value < LEAST_REDZONE || to > arena)
+    uint64_t from = (uint64_t)step->value - REDZONE;
+    uint64_t to = step->value + GRANULE * (uint64_t)granules_of(size) + REDZONE;
+    if (step->value % GRANULE != 0 || step->value < REDZONE || to > arena)
         differ(step, "no block can be there");
     for (uint64_t i = from; i < to; i++)
         if (!__asan_address_is_poisoned(memory + i))
             differ(step, "the runtime says that byte %08" PRIx64 " is addressable already", i);
-    if (lives == MOST_ROWS)
-        differ(step, "there are %d live blocks already", MOST_ROWS);
+    if (lives == KINKHOST_MOST_ROWS)
+        differ(step, "there are %d live blocks already", KINKHOST_MOST_ROWS);
     live[lives++] = (struct block){ step->value, size };
     __asan_unpoison_memory_region(memory + step->value, size);
-    memset(released + step->value / 8, 0, granules_of(size));
+    memset(released + step->value / GRANULE, 0, granules_of(size));
     grants++;
 }
 
@@ -116,7 +118,7 @@ static void release(const struct step *step)
     if (block == NULL)
         differ(step, "no live block starts there");
     __asan_poison_memory_region(memory + block->address, block->size);
-    memset(released + block->address / 8, 1, granules_of(block->size));
+    memset(released + block->address / GRANULE, 1, granules_of(block->size));
     *block = live[--lives];
     releases++;
 }
@@ -141,16 +143,18 @@ static void compare_kind(const struct step *step)
 {
     uint32_t leading = 0;
     if (step->value >= arena) {
-        if (step->answer_kind != 0xff)
+        if (step->answer_kind != KINKHOST_OUTSIDE)
             differ(step, "the byte is outside the arena");
         return;
     }
-    while (leading < 8 && !__asan_address_is_poisoned(memory + step->value / 8 * 8 + leading))
+    while (leading < GRANULE && !__asan_address_is_poisoned(memory + step->value / GRANULE * GRANULE + leading))
         leading++;
     if (leading > 0 && step->answer_kind != leading)
         differ(step, "the runtime says that %u leading bytes of the granule are good", (unsigned)leading);
-    if (leading == 0 && step->answer_kind != 0xfa && !(step->answer_kind == 0xfd && released[step->value / 8]))
-        differ(step, "the granule is poisoned, and was %sreleased", released[step->value / 8] ? "" : "not ");
+    int was_released = released[step->value / GRANULE];
+    if (leading == 0 && step->answer_kind != KINKHOST_REDZONE_BYTE &&
+        !(step->answer_kind == KINKHOST_RELEASED_BYTE && was_released))
+        differ(step, "the granule is poisoned, and was %sreleased", was_released ? "" : "not ");
 }
 
 static void access_to(const struct step *step)
@@ -158,38 +162,46 @@ static void access_to(const struct step *step)
     int64_t byte = first_bad(step->a, step->b);
     if (byte < 0 && strcmp(step->answer, "000000000000") != 0)
         differ(step, "the runtime says that each byte is good");
-    if (byte >= 0 && (step->status != 9 || step->value != byte))
+    if (byte >= 0 && (step->status != KINKHOST_NOT_GOOD || step->value != byte))
         differ(step, "the runtime says that the first bad byte is %08" PRIx64, (uint64_t)byte);
     if (byte >= 0)
         compare_kind(step);
     *(byte < 0 ? &good : &bad) += 1;
 }
 
-/* 01, 02 or 03, which the line alone decides, or 0. */
+/* 01, 02 or 03, which the line alone decides, or 00. */
 static uint32_t line_refusal(const struct step *step)
 {
     if (!step->frame)
-        return 1;
-    if (step->kind < GRANT || step->kind > WRITE)
-        return 2;
-    return (step->kind == GRANT || step->kind == RELEASE) && step->b != 0 ? 3 : 0;
+        return KINKHOST_BAD_LINE;
+    switch (step->kind) {
+    case KINKHOST_KIND_GRANT:
+    case KINKHOST_KIND_RELEASE:
+        return step->b != 0 ? KINKHOST_NOT_ZERO : KINKHOST_DONE;
+    case KINKHOST_KIND_READ:
+    case KINKHOST_KIND_WRITE:
+        return KINKHOST_DONE;
+    default:
+        return KINKHOST_BAD_KIND;
+    }
 }
 
 /* 05 and 06 are a grant's, 07 and 08 a release's that has no live block. */
 static int may_be_refused(const struct step *step)
 {
-    if (step->kind == GRANT)
-        return step->status == 5 || step->status == 6;
-    return (step->status == 7 || step->status == 8) && step->a != 0 && live_at(step->a) == NULL;
+    if (step->kind == KINKHOST_KIND_GRANT)
+        return step->status == KINKHOST_NO_ROW || step->status == KINKHOST_NO_PLACE;
+    return (step->status == KINKHOST_NOT_HELD || step->status == KINKHOST_RELEASED) && step->a != 0 &&
+           live_at(step->a) == NULL;
 }
 
 /* A line that is refused changes nothing. */
 static void refusal(const struct step *step)
 {
     uint32_t expected = line_refusal(step);
-    if (expected != 0 && step->status != expected)
+    if (expected != KINKHOST_DONE && step->status != expected)
         differ(step, "the line alone gives %02u", (unsigned)expected);
-    if (expected == 0 && !may_be_refused(step))
+    if (expected == KINKHOST_DONE && !may_be_refused(step))
         differ(step, "there is no such refusal here");
     if (step->answer_kind != 0 || step->value != 0)
         differ(step, "a refusal has kind 00 and value 0");
@@ -198,13 +210,13 @@ static void refusal(const struct step *step)
 
 static void compare(const struct step *step)
 {
-    if (step->frame && (step->kind == READ || step->kind == WRITE))
+    if (step->frame && (step->kind == KINKHOST_KIND_READ || step->kind == KINKHOST_KIND_WRITE))
         access_to(step);
-    else if (line_refusal(step) != 0 || step->status != 0)
+    else if (line_refusal(step) != KINKHOST_DONE || step->status != KINKHOST_DONE)
         refusal(step);
     else if (step->answer_kind != 0)
         differ(step, "what is done has kind 00");
-    else if (step->kind == GRANT)
+    else if (step->kind == KINKHOST_KIND_GRANT)
         grant(step);
     else
         release(step);
@@ -233,8 +245,8 @@ static unsigned long replay(FILE *trace, FILE *report)
         if (answered != ANSWER || !digits(answer, 2, 0, &step.status) || !digits(answer + 2, 2, 0, &step.answer_kind) ||
             !digits(answer + 4, 8, 0, &step.value))
             differ(&step, "that is not an answer");
-        step.frame = length == FRAME && digits(step.line, 2, 1, &step.kind) && digits(step.line + 2, 8, 1, &step.a) &&
-                     digits(step.line + 10, 8, 1, &step.b);
+        step.frame = length == KINKHOST_FRAME_DIGITS && digits(step.line, 2, 1, &step.kind) &&
+                     digits(step.line + 2, 8, 1, &step.a) && digits(step.line + 10, 8, 1, &step.b);
         compare(&step);
     }
     if (next_line(report, &answer, &answer_room) >= 0)
@@ -273,9 +285,9 @@ static FILE *opened(const char *name)
 int main(int count, char **arguments)
 {
     unsigned long granules = count == 4 ? strtoul(arguments[1], NULL, 10) : 0;
-    if (granules < 8 || granules > MOST_GRANULES)
-        unusable("usage: beside GRANULES TRACE REPORT, with 8 to 65536 granules", count > 1 ? arguments[1] : "");
-    arena = 8 * granules;
+    if (granules < KINKHOST_LEAST_GRANULES || granules > KINKHOST_MOST_GRANULES)
+        unusable("usage: beside GRANULES TRACE REPORT, of a pool that opens", count > 1 ? arguments[1] : "");
+    arena = GRANULE * granules;
     __asan_poison_memory_region(memory, sizeof memory);
     compare_map();
     FILE *trace = opened(arguments[2]), *report = opened(arguments[3]);
