@@ -10,7 +10,7 @@ use Rattle.rules.specs.declared.Fed.{Fed}
 use Rattle.rules.specs.Limits.{line-feed}
 use Rattle.rules.specs.Answers.{status}
 use Rattle.rules.specs.Feed.{act-line}
-use Rattle.rules.proofs.Calls.{state-of}
+use Rattle.rules.specs.Watcher.{state-of, watcher}
 use Rattle.watcher.proofs.Refusals as by-value-call
 use Rattle.lent.specs.Calls.{counts-of, FeedInPlaceCall}
 use Rattle.lent.proofs.Calls.{by-value}
@@ -28,8 +28,6 @@ module _ {session session-after : Session} {shadow table room shadow-after table
       let kept = by-value-call.feed-refused-keeps (by-value lent) refused in
       (ap counts-of (kept .0), ap (λ (fed : Fed). fed .session) (kept .0), kept .1, kept .2, kept .3)
 
-  pub line-in-place-refused-keeps :
-      FeedInPlaceCall session shadow table (line-feed ∷ []) room
-      counts session-after shadow-after table-after room-after
-      → status (act-line (state-of session shadow table) .answer) ≢ 0 → (shadow-after ≡ shadow) × (table-after ≡ table)
+  pub line-in-place-refused-keeps : FeedInPlaceCall session shadow table (line-feed ∷ []) room counts session-after shadow-after table-after room-after
+      → status (act-line watcher (state-of session shadow table) .answer) ≢ 0 → (shadow-after ≡ shadow) × (table-after ≡ table)
   line-in-place-refused-keeps lent refused = by-value-call.line-refused-keeps (by-value lent) refused

@@ -16,6 +16,6 @@ pub record FeedInPlaceCall (session-before : Session) (shadow-before table-befor
     (r : Counts) (session-after : Session) (shadow-after table-after room-after : List ℕ) : Type 0 where
   pub counts : r ≡ counts-of (feed session-before shadow-before table-before piece room-before .given)
   pub session : session-after ≡ feed session-before shadow-before table-before piece room-before .given .session
-  pub shadow : shadow-after ≡ feed session-before shadow-before table-before piece room-before .shadow
-  pub table : table-after ≡ feed session-before shadow-before table-before piece room-before .table
+  pub shadow : shadow-after ≡ feed session-before shadow-before table-before piece room-before .pool .shadow
+  pub table : table-after ≡ feed session-before shadow-before table-before piece room-before .pool .table
   pub room : room-after ≡ feed session-before shadow-before table-before piece room-before .room

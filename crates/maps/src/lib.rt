@@ -2,8 +2,7 @@
 ghost use Prim.Native.Nat.{_^_, _<_};
 ghost use mathlib.Core.Path.{_≡_};
 ghost use Rattle.rules.specs.Answers.{status};
-ghost use Rattle.rules.proofs.Maps.{Published};
-ghost use Rattle.rules.specs.Maps.{map32, map64, region, region-number, map-answer, map-shadow, map-call};
+ghost use Rattle.rules.specs.Maps.{map32, map64, region, region-number, map-answer, map-shadow, map-call, Published};
 use rules::Map;
 use rules::Mapped;
 use rules::Region;

@@ -15,8 +15,8 @@ ghost use lib.ListN.{length};
 ghost use Rattle.rules.specs.Limits.{most-granules};
 ghost use Rattle.rules.specs.Grant.{acted, counted, grant};
 ghost use Rattle.rules.specs.Release.{release};
-ghost use Rattle.rules.specs.Feed.{access, act};
-ghost use Rattle.rules.proofs.Calls.{Lent};
+ghost use Rattle.rules.specs.Watcher.{access, act};
+ghost use Rattle.rules.specs.Calls.{Lent};
 
 // A size of 0 counts as 1.
 fn counted(size: u32) -> u32

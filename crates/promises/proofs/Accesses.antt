@@ -14,12 +14,14 @@ use Rattle.rules.specs.declared.Frame.{Frame}
 use Rattle.rules.specs.declared.Frame.the-variants.{Grant, Release, Read, Write, Refused}
 use Rattle.rules.specs.Limits.{granule, live, quarantined}
 use Rattle.rules.specs.Table.{rows, start, size, state}
-use Rattle.rules.specs.Shadow.{addressable, kind, first-bad, shadow-of}
+use Rattle.rules.specs.Shadow.{addressable, kind, first-bad, shadow-of, FirstBad}
 use Rattle.rules.specs.Answers.{in-numbers, status}
 use Rattle.rules.specs.Grant.{counted, granules, granted}
-use Rattle.rules.specs.Feed.{State, access, act, act-line}
+use Rattle.rules.specs.Release.{Pool}
+use Rattle.rules.specs.Feed.{State, act-line}
+use Rattle.rules.specs.Watcher.{access, act, watcher}
 use Rattle.rules.proofs.Tests.{by-found, by-order}
-use Rattle.rules.proofs.Shadow.{FirstBad, first-bad-some, first-bad-none, not-inside, kind-inside, kind-outside}
+use Rattle.rules.proofs.Shadow.{first-bad-some, first-bad-none, not-inside, kind-inside, kind-outside}
 use Rattle.rules.proofs.Grant.{granules-enough, granules-least, granted-last}
 use Rattle.rules.proofs.Refusals.{access-good, access-bad}
 use Rattle.promises.specs.History.{held, Exchange, asks, status-of, Block, block, has-byte, lies-in, others, History, nothing-yet, done, heard, heard-all, history, value-of, kind-of, latest}
@@ -36,8 +38,8 @@ use Rattle.promises.proofs.Invariant.{Stands, HoldsOf, line-moment, rep
 
 -- ---- the answer to an access
 
-access-answer : {P : State → History → Type 0} {h : History} {x : Exchange} (m : Moment P h x) (a n : ℕ) → Touches x a n
-    → act-line (m .st) .answer ≡ access (m .st .shadow) a n
+access-answer : {P : State Pool → History → Type 0} {h : History} {x : Exchange} (m : Moment P h x) (a n : ℕ) → Touches x a n
+    → act-line watcher (m .st) .answer ≡ access (m .st .pool .shadow) a n
 unfolding act
 access-answer m a n (inl e) = ap (λ acted. acted .answer) (acted-on m (Read a n) e)
 access-answer m a n (inr e) = ap (λ acted. acted .answer) (acted-on m (Write a n) e)
@@ -115,15 +117,15 @@ judged : (r : Replay) (before : List Exchange) (x : Exchange) → Line r before 
 unfolding status in-numbers
 judged r before x line a n touches =
     let m : Moment (HoldsOf r) (history before) x = line-moment r before x line in
-    let shadow : List ℕ = m .st .shadow in
+    let shadow : List ℕ = m .st .pool .shadow in
     let blocks : List Block = history before .live in
     let stands = m .holds .stands in
     let same : (b : ℕ) → addressable shadow b ≡ lies-in blocks b = addressable-lies (stands .standing .laid) blocks (stands .standing .lives) in
     by-found (first-bad shadow a n)
     (λ b e.
     let f : FirstBad shadow a n b = first-bad-some shadow a n b e in
-    let answer : act-line (m .st) .answer ≡ NotGood (kind shadow b) b = access-answer m a n touches ∙ access-bad shadow a n b e in
-    let kind-is : in-numbers (act-line (m .st) .answer) .kind ≡ kind shadow b = ap (λ c. in-numbers c .kind) answer in
+    let answer : act-line watcher (m .st) .answer ≡ NotGood (kind shadow b) b = access-answer m a n touches ∙ access-bad shadow a n b e in
+    let kind-is : in-numbers (act-line watcher (m .st) .answer) .kind ≡ kind shadow b = ap (λ c. in-numbers c .kind) answer in
     let stray : lies-in blocks b ≡ false = sym (same b) ∙ f .bad in
     inl
     (record {
@@ -138,7 +140,7 @@ judged r before x line a n touches =
       kind = (kind shadow b, m .kind-is (omega (arith, kind-fits stands b)) ∙ ap some kind-is, kind-by stands b stray);
     }))
     (λ e.
-    let answer : act-line (m .st) .answer ≡ Done 0 = access-answer m a n touches ∙ access-good shadow a n e in
+    let answer : act-line watcher (m .st) .answer ≡ Done 0 = access-answer m a n touches ∙ access-good shadow a n e in
     inr
     (record {
       status-is = m .status-is ∙ ap (λ c. some (status c)) answer;
@@ -187,7 +189,7 @@ pub outside-nowhere : OutsideNowhere
 outside-nowhere r b beyond =
     let standing = replay-holds r .stands .standing in
     sym (addressable-lies (standing .laid) (happened r .live) (standing .lives) b)
-    ∙ not-inside (ran r .state .shadow) b (omega (arith, standing .laid .of-shadow))
+    ∙ not-inside (ran r .state .pool .shadow) b (omega (arith, standing .laid .of-shadow))
 
 -- ---- two blocks
 
@@ -264,7 +266,7 @@ module _ {S R Q : ℕ} {shadow table : List ℕ} {h : History} (stands : Stands 
 pub two-blocks : TwoBlocks
 two-blocks r before x line a n touches y z in-y in-z differ b c from-b below-b has-b from-c below-c has-c =
     let m : Moment (HoldsOf r) (history before) x = line-moment r before x line in
-    let table : List ℕ = m .st .table in
+    let table : List ℕ = m .st .pool .table in
     let first : (i : ℕ) × Held table i × (of-row table i ≡ y) = held-row (m .holds .stands) y in-y in
     let second : (j : ℕ) × Held table j × (of-row table j ≡ z) = held-row (m .holds .stands) z in-z in
     reported r before x line a n touches .reported .1
@@ -332,7 +334,7 @@ until-granted r before between gone x line c asks-release is-done y in-y at-c b 
     } in
     let m : Moment (HoldsOf r) (history before) gone = line-moment r before gone before-gone in
     let h : History = history before in
-    let v : ℕ = in-numbers (act-line (m .st) .answer) .value in
+    let v : ℕ = in-numbers (act-line watcher (m .st) .answer) .value in
     let released : heard h gone ≡ done h (Release c) v =
     heard-done h gone v is-done (m .value-is) ∙ ap (λ frame. done h frame v) asks-release in
     let left : lies-in (others c (h .live)) b ≡ false =

@@ -1,4 +1,6 @@
 -- The user's three demands, and what else he was promised: each proved. Assumes nothing.
+use Rattle.rules.specs.Watcher.{watcher}
+use Rattle.rules.proofs.Calls.{watcher-keeps}
 use Rattle.promises.specs.Demands.{Demand1, Demand2, Demand3, Beyond}
 use Rattle.promises.proofs.Replay.{every-line, same-report}
 use Rattle.promises.proofs.Total.{total, refusals-keep}
@@ -23,10 +25,10 @@ demand-2 = record {
 
 pub demand-3 : Demand3
 demand-3 = record {
-  cut-anywhere = cutting;
-  stopped-early = stops-early;
-  goes-on = goes-on;
-  finishes = finishes;
+  cut-anywhere = cutting watcher;
+  stopped-early = stops-early watcher;
+  goes-on = goes-on watcher watcher-keeps;
+  finishes = finishes watcher watcher-keeps;
   every-line = every-line;
   reported = reported;
   first-bad-byte = first-bad-byte;
@@ -51,6 +53,6 @@ beyond = record {
   direct-calls = direct-calls;
   two-blocks-reported = two-blocks;
   reported-until-granted = until-granted;
-  answers-so-far = so-far;
+  answers-so-far = so-far watcher;
   same-report = same-report;
 }

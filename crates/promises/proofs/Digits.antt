@@ -13,12 +13,14 @@ use Rattle.rules.specs.Answers.{in-numbers, status}
 use Rattle.rules.specs.Grant.{counted, granules, grant-at, grant}
 use Rattle.rules.specs.Release.{Pool, quarantine-row, release-row, release}
 use Rattle.rules.specs.Frames.{frame}
-use Rattle.rules.specs.Feed.{State, access, act, act-line}
+use Rattle.rules.specs.Feed.{State, act-line}
+use Rattle.rules.specs.Watcher.{access, act, watcher}
+use Rattle.rules.specs.Calls.{LentState}
 use Rattle.rules.proofs.Tests.{by-found}
 use Rattle.rules.proofs.Shadow.{first-bad-some, first-bad-fits}
 use Rattle.rules.proofs.Grant.{place-fits, by-grant}
 use Rattle.rules.proofs.Release.{row-at-some, by-release, evicted-most, quarantine-row-lengths}
-use Rattle.rules.proofs.Calls.{LentState, lent-granules, lent-numbers}
+use Rattle.rules.proofs.Calls.{lent-granules, lent-numbers}
 use Rattle.rules.proofs.Refusals.{access-good, access-bad}
 use Rattle.promises.proofs.Lines.{by-line}
 
@@ -49,15 +51,15 @@ release-fits R Q shadow table a most =
     omega (arith, evicted-most R Q (quarantine-row pool i), quarantine-row-lengths pool i (row-at-some live table a i e .below) .1))
 
 -- the value that a line is answered fits its 8 digits
-pub value-fits : (st : State) → LentState st → in-numbers (act-line st .answer) .value < 16 ^ 8
+pub value-fits : (st : State Pool) → LentState st → in-numbers (act-line watcher st .answer) .value < 16 ^ 8
 unfolding act-line act in-numbers
 value-fits st lent =
-    by-line (λ frame. in-numbers (act (st .session) (st .shadow) (st .table) frame .answer) .value < 16 ^ 8)
+    by-line (λ frame. in-numbers (act (st .session) (st .pool .shadow) (st .pool .table) frame .answer) .value < 16 ^ 8)
     (omega arith) (omega arith) (omega arith)
-    (λ s fits. grant-fits (st .session .redzone) (st .shadow) (st .table) s (lent-granules lent))
-    (λ a fits. release-fits (st .session .redzone) (st .session .quarantine) (st .shadow) (st .table) a (lent-numbers lent))
-    (λ a n fits fits′. access-fits (st .shadow) a n (lent-granules lent) fits)
-    (λ a n fits fits′. access-fits (st .shadow) a n (lent-granules lent) fits)
+    (λ s fits. grant-fits (st .session .redzone) (st .pool .shadow) (st .pool .table) s (lent-granules lent))
+    (λ a fits. release-fits (st .session .redzone) (st .session .quarantine) (st .pool .shadow) (st .pool .table) a (lent-numbers lent))
+    (λ a n fits fits′. access-fits (st .pool .shadow) a n (lent-granules lent) fits)
+    (λ a n fits fits′. access-fits (st .pool .shadow) a n (lent-granules lent) fits)
     (st .session .unfinished) (st .session .line)
 
 -- and every status its 2

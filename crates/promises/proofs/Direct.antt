@@ -12,9 +12,10 @@ use Rattle.rules.specs.declared.Frame.{Frame}
 use Rattle.rules.specs.declared.Frame.the-variants.{Grant, Release, Read, Write, Refused}
 use Rattle.rules.specs.Limits.{frame-digits, line-feed, kind-grant, kind-release, kind-read, kind-write}
 use Rattle.rules.specs.Grant.{grant}
-use Rattle.rules.specs.Release.{release}
+use Rattle.rules.specs.Release.{release, Pool}
 use Rattle.rules.specs.Frames.{digit, digits, digits-zero, digits-suc, frame, with-zero, frame-of-line, answer-line}
-use Rattle.rules.specs.Feed.{State, no-bytes, emptied, act, act-line, finish, hold, after, run, run-nil}
+use Rattle.rules.specs.Feed.{State, no-bytes, emptied, act-line, finish, hold, after, run, run-nil}
+use Rattle.rules.specs.Watcher.{act, watcher, state-of, outcome}
 use Rattle.rules.proofs.Put.{Each}
 use Rattle.rules.proofs.Frames.{length-digits, frame-written, frame-grant, frame-release, frame-read, frame-write, with-zero-is, line-whole}
 use Rattle.rules.proofs.Feed.{SameNumbers, Quiet, run-append, run-numbers, run-quiet}
@@ -45,13 +46,13 @@ no-feed-digits (suc k) n =
     (no-feed-cons (digit (n / 16 ^ k % 16)) (digits k n) (digit-no-feed (n / 16 ^ k % 16) (mod-lt (n / 16 ^ k) (omega arith))) (no-feed-digits k n))
 
 -- the session stands for them
-spells-run : (line bytes : List ℕ) (st : State) → NoFeed line → Spells (st .session) bytes → Spells (run st line .state .session) (bytes ++ line)
+spells-run : (line bytes : List ℕ) (st : State Pool) → NoFeed line → Spells (st .session) bytes → Spells (run watcher st line .state .session) (bytes ++ line)
 unfolding hold
 spells-run [] bytes st none· spells =
-    subst (λ r. Spells (r .state .session) (bytes ++ [])) (sym (run-nil st)) (subst (Spells (st .session)) (sym (append-nil bytes)) spells)
+    subst (λ r. Spells (r .state .session) (bytes ++ [])) (sym (run-nil watcher st)) (subst (Spells (st .session)) (sym (append-nil bytes)) spells)
 spells-run (b ∷ line) bytes st none· spells =
     subst (λ r. Spells (r .state .session) (bytes ++ (b ∷ line))) (sym (run-byte st b line (none· zero (omega arith))))
-    (subst (Spells (run (hold st b .state) line .state .session)) (append-assoc bytes (b ∷ []) line)
+    (subst (Spells (run watcher (hold st b .state) line .state .session)) (append-assoc bytes (b ∷ []) line)
     (spells-run line (bytes ++ (b ∷ [])) (hold st b .state) (λ k below. none· (suc k) (omega arith)) (spells-more spells b)))
 
 -- ---- a line
@@ -74,33 +75,33 @@ emptied-same session other same =
     (same .redzone) (same .quarantine)
 
 -- a line with no line feed in it, and then a line feed: what its frame does
-line-runs : (st : State) (line : List ℕ) (k : Frame) → st .session ≡ emptied (st .session) → NoFeed line → frame-of-line (length line) line ≡ k
-    → run st (line ++ (line-feed ∷ [])) ≡ told-as st (act (st .session) (st .shadow) (st .table) k)
+line-runs : (st : State Pool) (line : List ℕ) (k : Frame) → st .session ≡ emptied (st .session) → NoFeed line → frame-of-line (length line) line ≡ k
+    → run watcher st (line ++ (line-feed ∷ [])) ≡ told-as st (act (st .session) (st .pool .shadow) (st .pool .table) k)
 unfolding finish act-line emptied
 line-runs st line k none· no-feed asks-k =
-    let mid : State = run st line .state in
-    let quiet : Quiet st (run st line) = run-quiet st line no-feed in
-    let same : SameNumbers (st .session) (mid .session) = run-numbers st line in
+    let mid : State Pool = run watcher st line .state in
+    let quiet : Quiet watcher st (run watcher st line) = run-quiet watcher st line no-feed in
+    let same : SameNumbers (st .session) (mid .session) = run-numbers watcher st line in
     let empty-line : Spells (st .session) [] =
     subst (λ s. Spells s []) (sym none·) (spells-none (emptied (st .session)) refl refl) in
     let spells : Spells (mid .session) line = spells-run line [] st no-feed empty-line in
     let asked-is : frame-of-line (mid .session .unfinished) (mid .session .line) ≡ k = sym (spells-asks spells) ∙ asks-k in
     let session-is : emptied (mid .session) ≡ st .session = emptied-same (st .session) (mid .session) same ∙ sym none· in
-    let acted-is : act-line mid ≡ act (st .session) (st .shadow) (st .table) k =
-    ap (act (mid .session) (mid .shadow) (mid .table)) asked-is
-    ∙ ap₂ (λ shadow table. act (mid .session) shadow table k) (quiet .shadow) (quiet .table)
-    ∙ act-same (st .session) (mid .session) (st .shadow) (st .table) k same in
-    run-append st line (line-feed ∷ [])
-    ∙ ap (λ report. after report (run mid (line-feed ∷ []))) (quiet .report)
+    let acted-is : act-line watcher mid ≡ outcome (act (st .session) (st .pool .shadow) (st .pool .table) k) =
+    ap (λ frame. outcome (act (mid .session) (mid .pool .shadow) (mid .pool .table) frame)) asked-is
+    ∙ ap (λ pool. outcome (act (mid .session) (pool .shadow) (pool .table) k)) (quiet .pool)
+    ∙ ap outcome (act-same (st .session) (mid .session) (st .pool .shadow) (st .pool .table) k same) in
+    run-append watcher st line (line-feed ∷ [])
+    ∙ ap (λ report. after report (run watcher mid (line-feed ∷ []))) (quiet .report)
     ∙ run-feed mid []
-    ∙ ap (after (finish mid .report)) (run-nil (finish mid .state))
-    ∙ ap (λ report. record { state = finish mid .state; report = report }) (append-nil (finish mid .report))
-    ∙ ap₂ (λ session acted. record { state = record { session = session; shadow = acted .shadow; table = acted .table }; report = answer-line (acted .answer) })
+    ∙ ap (after (finish watcher mid .report)) (run-nil watcher (finish watcher mid .state))
+    ∙ ap (λ report. record { state = finish watcher mid .state; report = report }) (append-nil (finish watcher mid .report))
+    ∙ ap₂ (λ session done. record { state = record { session = session; pool = done .pool }; report = answer-line (done .answer) })
     session-is acted-is
 
 -- the line of a frame of 32-bit numbers asks that frame
-frame-runs : (st : State) (kind A B : ℕ) → st .session ≡ emptied (st .session) → kind < 16 ^ 2 → A < 16 ^ 8 → B < 16 ^ 8
-    → run st (line-of kind A B) ≡ told-as st (act (st .session) (st .shadow) (st .table) (frame kind A B))
+frame-runs : (st : State Pool) (kind A B : ℕ) → st .session ≡ emptied (st .session) → kind < 16 ^ 2 → A < 16 ^ 8 → B < 16 ^ 8
+    → run watcher st (line-of kind A B) ≡ told-as st (act (st .session) (st .pool .shadow) (st .pool .table) (frame kind A B))
 unfolding line-of
 frame-runs st kind A B none· in2 in8 in8′ =
     let rest : List ℕ = digits 8 A ++ digits 8 B in
@@ -119,21 +120,21 @@ direct-calls = record {
   grant = λ st idle s fits.
       frame-runs st kind-grant s 0 (idle .none-unfinished) (omega arith) fits (omega arith)
       ∙ ap (told-as st)
-      (ap (act (st .session) (st .shadow) (st .table)) (frame-grant s 0 ∙ with-zero-is (Grant s))
-      ∙ sym (grant-as-frame (st .session) (st .shadow) (st .table) s (idle .fits)));
+      (ap (act (st .session) (st .pool .shadow) (st .pool .table)) (frame-grant s 0 ∙ with-zero-is (Grant s))
+      ∙ sym (grant-as-frame (st .session) (st .pool .shadow) (st .pool .table) s (idle .fits)));
   release = λ st idle a fits.
       frame-runs st kind-release a 0 (idle .none-unfinished) (omega arith) fits (omega arith)
       ∙ ap (told-as st)
-      (ap (act (st .session) (st .shadow) (st .table)) (frame-release a 0 ∙ with-zero-is (Release a))
-      ∙ sym (release-as-frame (st .session) (st .shadow) (st .table) a (idle .fits)));
+      (ap (act (st .session) (st .pool .shadow) (st .pool .table)) (frame-release a 0 ∙ with-zero-is (Release a))
+      ∙ sym (release-as-frame (st .session) (st .pool .shadow) (st .pool .table) a (idle .fits)));
   read = λ st idle a n fits fits′.
       frame-runs st kind-read a n (idle .none-unfinished) (omega arith) fits fits′
       ∙ ap (told-as st)
-      (ap (act (st .session) (st .shadow) (st .table)) (frame-read a n)
-      ∙ sym (access-as-frame (st .session) (st .shadow) (st .table) a n (idle .fits)));
+      (ap (act (st .session) (st .pool .shadow) (st .pool .table)) (frame-read a n)
+      ∙ sym (access-as-frame (st .session) (st .pool .shadow) (st .pool .table) a n (idle .fits)));
   write = λ st idle a n fits fits′.
       frame-runs st kind-write a n (idle .none-unfinished) (omega arith) fits fits′
       ∙ ap (told-as st)
-      (ap (act (st .session) (st .shadow) (st .table)) (frame-write a n)
-      ∙ sym (access-as-frame (st .session) (st .shadow) (st .table) a n (idle .fits)));
+      (ap (act (st .session) (st .pool .shadow) (st .pool .table)) (frame-write a n)
+      ∙ sym (access-as-frame (st .session) (st .pool .shadow) (st .pool .table) a n (idle .fits)));
 }

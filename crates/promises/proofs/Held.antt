@@ -14,12 +14,13 @@ use Rattle.rules.specs.declared.Frame.the-variants.{Grant, Release}
 use Rattle.rules.specs.Limits.{granule, empty, live, quarantined}
 use Rattle.rules.specs.Table.{rows, start, state, is-empty}
 use Rattle.rules.specs.Answers.{in-numbers, status}
-use Rattle.rules.specs.Grant.{counted, granules, place, empty-row, grant-at, grant, unchanged}
+use Rattle.rules.specs.Grant.{counted, granules, place, empty-row, grant-at, grant, unchanged, Fits, Place}
 use Rattle.rules.specs.Release.{row-at, release-row, release, Pool, quarantine-row}
-use Rattle.rules.specs.Feed.{act, act-line}
+use Rattle.rules.specs.Feed.{act-line}
+use Rattle.rules.specs.Watcher.{act, watcher, outcome}
 use Rattle.rules.proofs.Tests.{by-order}
 use Rattle.rules.proofs.Lowest.{Lowest, below-all}
-use Rattle.rules.proofs.Grant.{counted-least, granules-above, Fits, Place, place-some, place-none, empty-row-some, empty-row-none, by-grant, granules-enough, grant-keeps}
+use Rattle.rules.proofs.Grant.{counted-least, granules-above, place-some, place-none, empty-row-some, empty-row-none, by-grant, granules-enough, grant-keeps}
 use Rattle.rules.proofs.Release.{StartsAt, row-at-some, row-at-none, by-release, settle-count, release-nothing}
 use Rattle.promises.specs.History.{Exchange, asks, status-of, value-of, Block, block, has-byte, History, history, latest, held, weigh, at, nothing-yet, done, heard-all}
 use Rattle.promises.specs.Rows.{_∈_, past, Apart, Free, Starts, Held, of-row, RowOf}
@@ -150,15 +151,17 @@ module _ {S n R Q : ℕ} {h : History} {x : Exchange} (m : Moment (Holds S n R Q
   Found = PlacedAt S R n (held R Q h) s x ⊎ (Full n (held R Q h) x ⊎ Nowhere S R n (held R Q h) s x)
 
   -- the line does what a grant does
-  granted-is : act-line (m .st) ≡ grant R (m .st .shadow) (m .st .table) s
+  granted-is : act-line watcher (m .st) ≡ outcome (grant R (m .st .pool .shadow) (m .st .pool .table) s)
   unfolding act
-  granted-is = acted-on m (Grant s) asks-grant ∙ ap (λ R′. grant R′ (m .st .shadow) (m .st .table) s) (m .holds .redzone)
+  granted-is =
+      acted-on m (Grant s) asks-grant
+      ∙ ap (λ R′. outcome (grant R′ (m .st .pool .shadow) (m .st .pool .table) s)) (m .holds .redzone)
 
   found-place : Found
   unfolding status in-numbers grant-at
   found-place =
-      let shadow : List ℕ = m .st .shadow in
-      let table : List ℕ = m .st .table in
+      let shadow : List ℕ = m .st .pool .shadow in
+      let table : List ℕ = m .st .pool .table in
       let stands : Stands S R Q shadow table h = m .holds .stands in
       let u : ℕ = granules (counted s) in
       let count : length (held R Q h) ≡ in-use table = held-count stands in
@@ -166,7 +169,7 @@ module _ {S n R Q : ℕ} {h : History} {x : Exchange} (m : Moment (Holds S n R Q
       λ i row.
       let l : Lowest (is-empty table) (rows table) 0 i = empty-row-some table i row in
       omega (arith, in-use-fewer table i (below-all l) (eqb-true (state table i) empty (l .passes)), m .holds .of-rows) in
-      by-grant R shadow table s (λ acted. act-line (m .st) ≡ acted → Found)
+      by-grant R shadow table s (λ acted. act-line watcher (m .st) ≡ outcome acted → Found)
       (λ full e.
       inr
       (inl
@@ -278,32 +281,32 @@ module _ {S n R Q : ℕ} {h : History} {x : Exchange} (m : Moment (Holds S n R Q
       ⊎ (Twice (h .live) (latest R Q (h .released)) a x ⊎ Foreign (h .live) (latest R Q (h .released)) a x)
 
   -- the line does what a release does
-  released-is : act-line (m .st) ≡ release R Q (m .st .shadow) (m .st .table) a
+  released-is : act-line watcher (m .st) ≡ outcome (release R Q (m .st .pool .shadow) (m .st .pool .table) a)
   unfolding act
   released-is =
       acted-on m (Release a) asks-release
-      ∙ ap (λ R′. release R′ (m .st .session .quarantine) (m .st .shadow) (m .st .table) a) (m .holds .redzone)
-      ∙ ap (λ Q′. release R Q′ (m .st .shadow) (m .st .table) a) (m .holds .quarantine)
+      ∙ ap (λ R′. outcome (release R′ (m .st .session .quarantine) (m .st .pool .shadow) (m .st .pool .table) a)) (m .holds .redzone)
+      ∙ ap (λ Q′. outcome (release R Q′ (m .st .pool .shadow) (m .st .pool .table) a)) (m .holds .quarantine)
 
   -- no block starts where no row does
-  none-live : row-at live (m .st .table) a ≡ none → Starts (h .live) a → ⊥
+  none-live : row-at live (m .st .pool .table) a ≡ none → Starts (h .live) a → ⊥
   none-live e s =
-      let row : RowOf (m .st .table) live (s .0) =
+      let row : RowOf (m .st .pool .table) live (s .0) =
       m .holds .stands .standing .lives .row (s .0) (s .1) in
-      row-at-none live (m .st .table) a e (row .0) (row .1) (row .2) (ap (λ y. y .address) (row .3) ∙ s .2)
+      row-at-none live (m .st .pool .table) a e (row .0) (row .1) (row .2) (ap (λ y. y .address) (row .3) ∙ s .2)
 
-  none-quarantined : row-at quarantined (m .st .table) a ≡ none → Starts (latest R Q (h .released)) a → ⊥
+  none-quarantined : row-at quarantined (m .st .pool .table) a ≡ none → Starts (latest R Q (h .released)) a → ⊥
   none-quarantined e s =
-      let row : RowOf (m .st .table) quarantined (s .0) =
-      queue-row R (m .st .table) (latest R Q (h .released)) (m .holds .stands .queue) (s .0) (s .1) in
-      row-at-none quarantined (m .st .table) a e (row .0) (row .1) (row .2) (ap (λ y. y .address) (row .3) ∙ s .2)
+      let row : RowOf (m .st .pool .table) quarantined (s .0) =
+      queue-row R (m .st .pool .table) (latest R Q (h .released)) (m .holds .stands .queue) (s .0) (s .1) in
+      row-at-none quarantined (m .st .pool .table) a e (row .0) (row .1) (row .2) (ap (λ y. y .address) (row .3) ∙ s .2)
 
   found-row : Left
   unfolding status in-numbers release-row
   found-row =
-      let table : List ℕ = m .st .table in
+      let table : List ℕ = m .st .pool .table in
       let blocks : List Block = latest R Q (h .released) in
-      by-release R Q (m .st .shadow) table a (λ acted. act-line (m .st) ≡ acted → Left)
+      by-release R Q (m .st .pool .shadow) table a (λ acted. act-line watcher (m .st) ≡ outcome acted → Left)
       (λ e is. absurd (above e))
       (λ not-zero no-live no-quarantined is.
       inr
@@ -364,8 +367,9 @@ unfolding history heard-all done act status in-numbers
 releases-nothing r before x line asks-nothing =
     let m : Moment (HoldsOf r) (history before) x = line-moment r before x line in
     let h : History = history before in
-    let is : act-line (m .st) ≡ unchanged (Done 0) (m .st .shadow) (m .st .table) =
-    acted-on m (Release 0) asks-nothing ∙ release-nothing (m .st .session .redzone) (m .st .session .quarantine) (m .st .shadow) (m .st .table) in
+    let is : act-line watcher (m .st) ≡ outcome (unchanged (Done 0) (m .st .pool .shadow) (m .st .pool .table)) =
+    acted-on m (Release 0) asks-nothing
+    ∙ ap outcome (release-nothing (m .st .session .redzone) (m .st .session .quarantine) (m .st .pool .shadow) (m .st .pool .table)) in
     let is-done : status-of x ≡ some 0 = m .status-is ∙ ap (λ acted. some (status (acted .answer))) is in
     let says-nothing : value-of x ≡ some 0 = m .value-is ∙ ap (λ acted. some (in-numbers (acted .answer) .value)) is in
     record {
@@ -386,7 +390,7 @@ evicted r before x line a asks-release above is-done =
     let h : History = history before in
     let R : ℕ = r .redzone in
     let Q : ℕ = r .quarantine in
-    let v : ℕ = in-numbers (act-line (m .st) .answer) .value in
+    let v : ℕ = in-numbers (act-line watcher (m .st) .answer) .value in
     let heard-is : history (before ++ (x ∷ [])) ≡ done h (Release a) v =
     heard-append nothing-yet before (x ∷ []) ∙ heard-done h x v is-done (m .value-is) ∙ ap (λ frame. done h frame v) asks-release in
     ⊎-elim

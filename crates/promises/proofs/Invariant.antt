@@ -15,14 +15,16 @@ use Rattle.rules.specs.Table.{rows, state, start, is-empty}
 use Rattle.rules.specs.Answers.{in-numbers, status}
 use Rattle.rules.specs.Grant.{Acted, counted, granules, grant-at, grant}
 use Rattle.rules.specs.Release.{Pool, quarantine-row, settle, release-row, release}
-use Rattle.rules.specs.Feed.{State, emptied, lengthened, act, act-line, finish, hold}
+use Rattle.rules.specs.Feed.{State, emptied, lengthened, act-line, finish, hold}
+use Rattle.rules.specs.Watcher.{act, watcher}
+use Rattle.rules.specs.Calls.{LentState}
 use Rattle.rules.proofs.Tests.{between-is}
 use Rattle.rules.proofs.Lowest.{Lowest, below-all}
 use Rattle.rules.proofs.Table.{rows-same}
 use Rattle.rules.proofs.Grant.{counted-least, place-some, empty-row-some, by-grant}
 use Rattle.rules.proofs.Release.{StartsAt, row-at-some, by-release}
-use Rattle.rules.proofs.Feed.{SameNumbers, lengthened-numbers, act-lengths}
-use Rattle.rules.proofs.Calls.{LentState}
+use Rattle.rules.proofs.Feed.{SameNumbers, lengthened-numbers}
+use Rattle.rules.proofs.Watcher.{act-lengths}
 use Rattle.promises.specs.History.{Exchange, Block, at, History, nothing-yet, done, history, latest, held}
 use Rattle.promises.specs.Replay.{Replay, opened, ran, Line, happened}
 use Rattle.promises.specs.Rows.{_∈_, Held, of-row, RowOf}
@@ -154,15 +156,15 @@ module _ {S R Q : ℕ} {shadow table : List ℕ} {h : History} (stands : Stands 
 -- ---- states
 
 -- the same of a state, with the opening's numbers: S, the rows, R and Q
-pub record Holds (S n R Q : ℕ) (st : State) (h : History) : Type 0 where
+pub record Holds (S n R Q : ℕ) (st : State Pool) (h : History) : Type 0 where
   pub redzone : st .session .redzone ≡ R
   pub quarantine : st .session .quarantine ≡ Q
-  pub of-rows : rows (st .table) ≡ n
-  pub stands : Stands S R Q (st .shadow) (st .table) h
+  pub of-rows : rows (st .pool .table) ≡ n
+  pub stands : Stands S R Q (st .pool .shadow) (st .pool .table) h
 
 module _ (S n R Q : ℕ) where
   -- a byte that is no line feed keeps it
-  on-byte : (st : State) (h : History) (b : ℕ) → Holds S n R Q st h → Holds S n R Q (hold st b .state) h
+  on-byte : (st : State Pool) (h : History) (b : ℕ) → Holds S n R Q st h → Holds S n R Q (hold st b .state) h
   unfolding hold
   on-byte st h b holds =
       let same : SameNumbers (st .session) (lengthened (st .session) b) = lengthened-numbers (st .session) b in
@@ -174,26 +176,26 @@ module _ (S n R Q : ℕ) where
       }
 
   -- and so does a line feed, with the answer heard
-  on-line : (st : State) (h : History) → LentState st → Holds S n R Q st h → Holds S n R Q (finish st .state) (told h (asked st) (act-line st .answer))
+  on-line : (st : State Pool) (h : History) → LentState st → Holds S n R Q st h → Holds S n R Q (finish watcher st .state) (told h (asked st) (act-line watcher st .answer))
   unfolding finish emptied act-line
   on-line st h lent holds =
-      let acted : Acted = act (st .session) (st .shadow) (st .table) (asked st) in
+      let acted : Acted = act (st .session) (st .pool .shadow) (st .pool .table) (asked st) in
       record {
         redzone = holds .redzone;
         quarantine = holds .quarantine;
-        of-rows = rows-same (acted .table) (st .table) (act-lengths (st .session) (st .shadow) (st .table) (asked st) .1) ∙ holds .of-rows;
+        of-rows = rows-same (acted .table) (st .pool .table) (act-lengths (st .session) (st .pool .shadow) (st .pool .table) (asked st) .1) ∙ holds .of-rows;
         stands =
             subst (λ Q′. Stands S R Q′ (acted .shadow) (acted .table) (told h (asked st) (acted .answer))) (holds .quarantine)
             (subst (λ R′. Stands S R′ (st .session .quarantine) (acted .shadow) (acted .table) (told h (asked st) (acted .answer))) (holds .redzone)
-            (stands-act (st .session) (st .shadow) (st .table) h (asked st)
-            (subst (λ Q′. Stands S (st .session .redzone) Q′ (st .shadow) (st .table) h) (sym (holds .quarantine))
-            (subst (λ R′. Stands S R′ Q (st .shadow) (st .table) h) (sym (holds .redzone)) (holds .stands)))));
+            (stands-act (st .session) (st .pool .shadow) (st .pool .table) h (asked st)
+            (subst (λ Q′. Stands S (st .session .redzone) Q′ (st .pool .shadow) (st .pool .table) h) (sym (holds .quarantine))
+            (subst (λ R′. Stands S R′ Q (st .pool .shadow) (st .pool .table) h) (sym (holds .redzone)) (holds .stands)))));
       }
 
 -- ---- from an opening
 
 -- of a replay: S, the rows, R and Q
-abbrev pub HoldsOf : Replay → State → History → Type 0
+abbrev pub HoldsOf : Replay → State Pool → History → Type 0
 HoldsOf r = Holds (length (r .shadow)) (length (r .table) / row-numbers) (r .redzone) (r .quarantine)
 
 -- no row of an opening is held

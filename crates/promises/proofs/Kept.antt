@@ -9,12 +9,12 @@ use lib.ListN.{length, getD, replicate, length-replicate, getD-replicate}
 use Rattle.rules.specs.Limits.{granule, row-numbers, redzone-byte, released-byte, empty, live, quarantined}
 use Rattle.rules.specs.Put.{put}
 use Rattle.rules.specs.Table.{rows, column, start, size, state, put-row}
-use Rattle.rules.specs.Grant.{granules, granted}
+use Rattle.rules.specs.Grant.{granules, granted, Fits}
 use Rattle.rules.specs.Release.{Pool, in-quarantine, evict-row, quarantine-row}
 use Rattle.rules.proofs.Tests.{by-order}
 use Rattle.rules.proofs.Put.{length-put, put-in, put-before, put-after}
 use Rattle.rules.proofs.Table.{rows-same, length-put-row, column-put-row, column-put-row-other}
-use Rattle.rules.proofs.Grant.{granules-above, granules-least, Fits, length-granted, granted-whole, granted-last}
+use Rattle.rules.proofs.Grant.{granules-above, granules-least, length-granted, granted-whole, granted-last}
 use Rattle.rules.proofs.Release.{evict-row-rows, evict-row-empty, evict-row-other, evict-row-turn, evict-row-own-turn, evict-row-shadow, paint-row-length, paint-row-in, paint-row-before, paint-row-after, quarantine-row-lengths, quarantine-row-own, quarantine-row-other}
 use Rattle.promises.specs.Rows.{Held}
 use Rattle.promises.proofs.Laid.{ends, Off, Laid, laid-repainted}

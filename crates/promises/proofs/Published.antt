@@ -9,12 +9,12 @@ use Rattle.rules.specs.Limits.{redzone-byte, released-byte}
 use Rattle.rules.specs.Shadow.{shadow-of}
 use Rattle.rules.specs.Answers.{status, in-numbers}
 use Rattle.rules.specs.Release.{quarantine-row}
-use Rattle.rules.specs.Maps.{map32, map64, shadow-address, region-number, map-answer, map-shadow}
+use Rattle.rules.specs.Maps.{map32, map64, shadow-address, region-number, map-answer, map-shadow, Published}
 use Rattle.rules.proofs.Shadow.{leading-all, leading-first, leading-none, negative-poisoned, judge-good, judge-bad, good-judge, bad-judge, addressable-inside, addressable-leading, addressable-is, kind-inside, kind-outside}
 use Rattle.rules.proofs.Grant.{place-some, place-none, place-is, place-no, length-granted, granted-whole, granted-last}
 use Rattle.rules.proofs.Release.{evict-row-shadow, paint-row-in}
 use Rattle.rules.proofs.Calls.{by-open}
-use Rattle.rules.proofs.Maps.{Published, published32, published64, in-low-mem, in-low-shadow, in-high-shadow, in-high-mem, map-call-at, map-gap, map-beyond}
+use Rattle.rules.proofs.Maps.{published32, published64, in-low-mem, in-low-shadow, in-high-shadow, in-high-mem, map-call-at, map-gap, map-beyond}
 use Rattle.promises.specs.Published.{ShadowBytes, Verdicts, Places, Printed, Map32, Map64}
 
 -- what a shadow byte says, and the bytes that a grant paints

@@ -12,12 +12,14 @@ use Rattle.rules.specs.declared.Answer.{Answer}
 use Rattle.rules.specs.declared.Frame.{Frame}
 use Rattle.rules.specs.Limits.{line-feed, row-numbers, least-granules, most-granules, least-redzone, most-redzone, between, redzone-byte}
 use Rattle.rules.specs.Answers.{in-numbers, status}
+use Rattle.rules.specs.Release.{Pool}
 use Rattle.rules.specs.Frames.{frame, frame-of-line}
-use Rattle.rules.specs.Feed.{State, Ran, act-line, emptied, finish, hold, after, run, run-nil, run-cons, act}
-use Rattle.rules.specs.Calls.{table-length, OpenedWith, open-with, fresh}
+use Rattle.rules.specs.Feed.{State, Ran, act-line, emptied, finish, hold, after, run, run-nil, run-cons}
+use Rattle.rules.specs.Watcher.{act, state-of, watcher, outcome}
+use Rattle.rules.specs.Calls.{table-length, OpenedWith, open-with, fresh, Lent, LentState}
 use Rattle.rules.proofs.Tests.{by-test}
 use Rattle.rules.proofs.Feed.{step-line-feed, step-byte, by-first}
-use Rattle.rules.proofs.Calls.{Lent, LentState, step-lent, open-bad-shadow, open-bad-redzone, open-bad-table, opened-with, open-done, open-lent, state-of}
+use Rattle.rules.proofs.Calls.{step-lent, open-bad-shadow, open-bad-redzone, open-bad-table, opened-with, open-done, open-lent}
 use Rattle.promises.specs.History.{lines-on, lines, Exchange, paired, exchanges, asks, status-of, value-of, History, nothing-yet, heard, heard-all, history, kind-of}
 use Rattle.promises.specs.Replay.{Replay, opened, ran, log, Line, happened, SameReport, EveryLine}
 use Rattle.promises.proofs.History.{told, heard-told}
@@ -48,7 +50,7 @@ opened-has r P passed =
     refused e other = absurd (other (ap (λ o. o .given .status) (sym e) ∙ r .accepted))
 
 -- the state after an opening that is accepted, by the lengths of the buffers that it was lent and by nothing that was in them
-abbrev pub fresh-state : ℕ → ℕ → ℕ → ℕ → State
+abbrev pub fresh-state : ℕ → ℕ → ℕ → ℕ → State Pool
 fresh-state S n R Q = state-of (fresh S (n / row-numbers) R Q) (replicate S redzone-byte) (replicate n 0)
 
 pub opened-is : (r : Replay) → opened r ≡ fresh-state (length (r .shadow)) (length (r .table)) (r .redzone) (r .quarantine)
@@ -71,35 +73,36 @@ opened-spells r = subst (λ st. Spells (st .session) []) (sym (opened-is r)) (sp
 -- ---- the moment of a line
 
 -- the frame of the line that a line feed would finish
-abbrev pub asked : State → Frame
+abbrev pub asked : State Pool → Frame
 asked st = frame-of-line (st .session .unfinished) (st .session .line)
 
 -- the moment at which a line is answered: the state that it meets, and what its exchange says
-pub record Moment (P : State → History → Type 0) (h : History) (x : Exchange) : Type 0 where
-  pub st : State
+pub record Moment (P : State Pool → History → Type 0) (h : History) (x : Exchange) : Type 0 where
+  pub st : State Pool
   pub holds : P st h
   pub asks-is : asks x ≡ asked st
-  pub status-is : status-of x ≡ some (status (act-line st .answer))
-  pub kind-is : in-numbers (act-line st .answer) .kind < 16 ^ 2 → kind-of x ≡ some (in-numbers (act-line st .answer) .kind)
-  pub value-is : value-of x ≡ some (in-numbers (act-line st .answer) .value)
+  pub status-is : status-of x ≡ some (status (act-line watcher st .answer))
+  pub kind-is : in-numbers (act-line watcher st .answer) .kind < 16 ^ 2 → kind-of x ≡ some (in-numbers (act-line watcher st .answer) .kind)
+  pub value-is : value-of x ≡ some (in-numbers (act-line watcher st .answer) .value)
 
 -- what the line's frame does is what the moment's line does
-pub acted-on : {P : State → History → Type 0} {h : History} {x : Exchange} (m : Moment P h x) (frame : Frame) → asks x ≡ frame
-    → act-line (m .st) ≡ act (m .st .session) (m .st .shadow) (m .st .table) frame
+pub acted-on : {P : State Pool → History → Type 0} {h : History} {x : Exchange} (m : Moment P h x) (frame : Frame) → asks x ≡ frame
+    → act-line watcher (m .st) ≡ outcome (act (m .st .session) (m .st .pool .shadow) (m .st .pool .table) frame)
 unfolding act-line
-acted-on m frame e = ap (act (m .st .session) (m .st .shadow) (m .st .table)) (sym (m .asks-is) ∙ e)
+acted-on m frame e =
+    ap (λ k. outcome (act (m .st .session) (m .st .pool .shadow) (m .st .pool .table) k)) (sym (m .asks-is) ∙ e)
 
 -- what is read off an answer is one number
 pub one-status : {o : Option ℕ} {s t : ℕ} → o ≡ some s → o ≡ some t → s ≡ t
 one-status {s = s} {t = t} e f = Option·some-injective s t (sym e ∙ f)
 
 -- what each byte keeps of a state and the history so far: after a log it holds of the last state, and at each line of the log
-record Goes (P : State → History → Type 0) (h : History) (log : List Exchange) (last : State) : Type 0 where
+record Goes (P : State Pool → History → Type 0) (h : History) (log : List Exchange) (last : State Pool) : Type 0 where
   after : P last (heard-all h log)
   at : (before : List Exchange) (x : Exchange) (rest : List Exchange) → log ≡ before ++ (x ∷ rest) → Moment P (heard-all h before) x
 
 -- no line
-goes-nowhere : (P : State → History → Type 0) (h : History) (st : State) → P st h → Goes P h [] st
+goes-nowhere : (P : State Pool → History → Type 0) (h : History) (st : State Pool) → P st h → Goes P h [] st
 unfolding heard-all
 goes-nowhere P h st holds = record { after = holds; at = at }
   where
@@ -108,7 +111,7 @@ goes-nowhere P h st holds = record { after = holds; at = at }
     at (y ∷ before) x rest e = absurd (cons-ne-nil y (before ++ (x ∷ rest)) (sym e))
 
 -- one line more
-goes-on : (P : State → History → Type 0) (h : History) (y : Exchange) (log : List Exchange) (last : State)
+goes-on : (P : State Pool → History → Type 0) (h : History) (y : Exchange) (log : List Exchange) (last : State Pool)
     → Moment P h y → Goes P (heard h y) log last → Goes P h (y ∷ log) last
 unfolding heard-all
 goes-on P h y log last first goes = record { after = goes .after; at = at }
@@ -121,29 +124,29 @@ goes-on P h y log last first goes = record { after = goes .after; at = at }
 -- ---- a text
 
 -- by its first byte: a line feed finishes the line, any other is held
-pub run-feed : (st : State) (text : List ℕ) → run st (line-feed ∷ text) ≡ after (finish st .report) (run (finish st .state) text)
-run-feed st text = run-cons st line-feed text ∙ ap (λ ran. after (ran .report) (run (ran .state) text)) (step-line-feed st)
+pub run-feed : (st : State Pool) (text : List ℕ) → run watcher st (line-feed ∷ text) ≡ after (finish watcher st .report) (run watcher (finish watcher st .state) text)
+run-feed st text = run-cons watcher st line-feed text ∙ ap (λ ran. after (ran .report) (run watcher (ran .state) text)) (step-line-feed watcher st)
 
-pub run-byte : (st : State) (b : ℕ) (text : List ℕ) → b ≢ line-feed → run st (b ∷ text) ≡ after (hold st b .report) (run (hold st b .state) text)
-run-byte st b text other = run-cons st b text ∙ ap (λ ran. after (ran .report) (run (ran .state) text)) (step-byte st b other)
+pub run-byte : (st : State Pool) (b : ℕ) (text : List ℕ) → b ≢ line-feed → run watcher st (b ∷ text) ≡ after (hold st b .report) (run watcher (hold st b .state) text)
+run-byte st b text other = run-cons watcher st b text ∙ ap (λ ran. after (ran .report) (run watcher (ran .state) text)) (step-byte watcher st b other)
 
-module _ (P : State → History → Type 0)
-    (on-byte : (st : State) (h : History) (b : ℕ) → P st h → P (hold st b .state) h)
-    (on-line : (st : State) (h : History) → LentState st → P st h → P (finish st .state) (told h (asked st) (act-line st .answer))) where
+module _ (P : State Pool → History → Type 0)
+    (on-byte : (st : State Pool) (h : History) (b : ℕ) → P st h → P (hold st b .state) h)
+    (on-line : (st : State Pool) (h : History) → LentState st → P st h → P (finish watcher st .state) (told h (asked st) (act-line watcher st .answer))) where
   -- a text goes on from a state and the bytes that its unfinished line stands for: over the text's log, to the last state
-  abbrev Along : History → List ℕ → List ℕ → Ran → Type 0
+  abbrev Along : History → List ℕ → List ℕ → Ran Pool → Type 0
   Along h line text ran = Goes P h (paired (lines-on line text) (lines (ran .report))) (ran .state)
 
   abbrev Follows : List ℕ → Type 0
-  Follows text = (st : State) (h : History) (line : List ℕ) → LentState st → Spells (st .session) line → P st h → Along h line text (run st text)
+  Follows text = (st : State Pool) (h : History) (line : List ℕ) → LentState st → Spells (st .session) line → P st h → Along h line text (run watcher st text)
 
   -- a line feed, and a text
   follows-feed : (text : List ℕ) → Follows text → Follows (line-feed ∷ text)
   unfolding paired finish emptied asks
   follows-feed text follows st h line lent spells holds =
-      let answer : Answer = act-line st .answer in
+      let answer : Answer = act-line watcher st .answer in
       let x : Exchange = record { line = line; answer = answer-digits answer } in
-      let rest : Ran = run (finish st .state) text in
+      let rest : Ran Pool = run watcher (finish watcher st .state) text in
       let now : Moment P h x = record {
         st = st;
         holds = holds;
@@ -155,10 +158,10 @@ module _ (P : State → History → Type 0)
       let hears : told h (asked st) answer ≡ heard h x =
       ap (λ frame. told h frame answer) (sym (now .asks-is)) ∙ sym (heard-told h x answer (now .status-is) (now .value-is)) in
       let later : Along (heard h x) [] text rest =
-      follows (finish st .state) (heard h x) []
-      (subst (λ ran. LentState (ran .state)) (step-line-feed st) (step-lent st line-feed lent))
+      follows (finish watcher st .state) (heard h x) []
+      (subst (λ ran. LentState (ran .state)) (step-line-feed watcher st) (step-lent st line-feed lent))
       (spells-none _ refl refl)
-      (subst (P (finish st .state)) hears (on-line st h lent holds)) in
+      (subst (P (finish watcher st .state)) hears (on-line st h lent holds)) in
       subst (Along h line (line-feed ∷ text)) (sym (run-feed st text))
       (subst (λ log. Goes P h log (rest .state)) (sym (ap₂ paired (lines-feed line text) (lines-answer answer (rest .report))))
       (goes-on P h x (paired (lines-on [] text) (lines (rest .report))) (rest .state) now later))
@@ -167,18 +170,18 @@ module _ (P : State → History → Type 0)
   follows-byte : (b : ℕ) (text : List ℕ) → b ≢ line-feed → Follows text → Follows (b ∷ text)
   unfolding hold
   follows-byte b text other follows st h line lent spells holds =
-      let rest : Ran = run (hold st b .state) text in
+      let rest : Ran Pool = run watcher (hold st b .state) text in
       subst (Along h line (b ∷ text)) (sym (run-byte st b text other))
       (subst (λ ls. Goes P h (paired ls (lines (rest .report))) (rest .state)) (sym (lines-byte line b text other))
       (follows (hold st b .state) h (line ++ (b ∷ []))
-      (subst (λ ran. LentState (ran .state)) (step-byte st b other) (step-lent st b lent))
+      (subst (λ ran. LentState (ran .state)) (step-byte watcher st b other) (step-lent st b lent))
       (spells-more spells b)
       (on-byte st h b holds)))
 
   -- any text
   text-follows : (text : List ℕ) → Follows text
   unfolding paired lines-on
-  text-follows [] = λ st h line lent spells holds. subst (Along h line []) (sym (run-nil st)) (goes-nowhere P h st holds)
+  text-follows [] = λ st h line lent spells holds. subst (Along h line []) (sym (run-nil watcher st)) (goes-nowhere P h st holds)
   text-follows (b ∷ text) =
       by-first b (λ c. Follows (c ∷ text)) (follows-feed text (text-follows text)) (λ other. follows-byte b text other (text-follows text))
 
@@ -201,15 +204,15 @@ module _ (P : State → History → Type 0)
 -- ---- every line is answered
 
 -- a text has as many lines as its report
-as-many : (text line : List ℕ) (st : State) → length (lines (run st text .report)) ≡ length (lines-on line text)
+as-many : (text line : List ℕ) (st : State Pool) → length (lines (run watcher st text .report)) ≡ length (lines-on line text)
 unfolding lines lines-on finish hold
-as-many [] = λ line st. ap (λ r. length (lines (r .report))) (run-nil st)
+as-many [] = λ line st. ap (λ r. length (lines (r .report))) (run-nil watcher st)
 as-many (b ∷ text) =
-    by-first b (λ c. (line : List ℕ) (st : State) → length (lines (run st (c ∷ text) .report)) ≡ length (lines-on line (c ∷ text)))
+    by-first b (λ c. (line : List ℕ) (st : State Pool) → length (lines (run watcher st (c ∷ text) .report)) ≡ length (lines-on line (c ∷ text)))
     (λ line st.
     ap (λ r. length (lines (r .report))) (run-feed st text)
-    ∙ ap length (lines-answer (act-line st .answer) (run (finish st .state) text .report))
-    ∙ ap suc (as-many text [] (finish st .state))
+    ∙ ap length (lines-answer (act-line watcher st .answer) (run watcher (finish watcher st .state) text .report))
+    ∙ ap suc (as-many text [] (finish watcher st .state))
     ∙ ap length (sym (lines-feed line text)))
     (λ other line st.
     ap (λ r. length (lines (r .report))) (run-byte st b text other)
@@ -226,19 +229,19 @@ length-paired (line ∷ lines) (answer ∷ answers) same = ap suc (length-paired
 pub every-line : EveryLine
 unfolding log ran exchanges lines
 every-line r =
-    let same : length (lines (run (opened r) (r .text) .report)) ≡ length (lines (r .text)) = as-many (r .text) [] (opened r) in
-    let all : length (paired (lines (r .text)) (lines (run (opened r) (r .text) .report))) ≡ length (lines (r .text)) =
-    length-paired (lines (r .text)) (lines (run (opened r) (r .text) .report)) same in
+    let same : length (lines (run watcher (opened r) (r .text) .report)) ≡ length (lines (r .text)) = as-many (r .text) [] (opened r) in
+    let all : length (paired (lines (r .text)) (lines (run watcher (opened r) (r .text) .report))) ≡ length (lines (r .text)) =
+    length-paired (lines (r .text)) (lines (run watcher (opened r) (r .text) .report)) same in
     record { lines-answered = all; answers-heard = all ∙ sym same }
 
 -- the same text from the same opening gives the same report, whatever was in the buffers
 pub same-report : SameReport
 unfolding ran
 same-report r q same-shadow same-table same-redzone same-quarantine same-text =
-    ap (λ st. run st (r .text)) (opened-is r)
-    ∙ ap (λ S. run (fresh-state S (length (r .table)) (r .redzone) (r .quarantine)) (r .text)) same-shadow
-    ∙ ap (λ n. run (fresh-state (length (q .shadow)) n (r .redzone) (r .quarantine)) (r .text)) same-table
-    ∙ ap (λ R. run (fresh-state (length (q .shadow)) (length (q .table)) R (r .quarantine)) (r .text)) same-redzone
-    ∙ ap (λ Q. run (fresh-state (length (q .shadow)) (length (q .table)) (q .redzone) Q) (r .text)) same-quarantine
-    ∙ ap (run (fresh-state (length (q .shadow)) (length (q .table)) (q .redzone) (q .quarantine))) same-text
-    ∙ ap (λ st. run st (q .text)) (sym (opened-is q))
+    ap (λ st. run watcher st (r .text)) (opened-is r)
+    ∙ ap (λ S. run watcher (fresh-state S (length (r .table)) (r .redzone) (r .quarantine)) (r .text)) same-shadow
+    ∙ ap (λ n. run watcher (fresh-state (length (q .shadow)) n (r .redzone) (r .quarantine)) (r .text)) same-table
+    ∙ ap (λ R. run watcher (fresh-state (length (q .shadow)) (length (q .table)) R (r .quarantine)) (r .text)) same-redzone
+    ∙ ap (λ Q. run watcher (fresh-state (length (q .shadow)) (length (q .table)) (q .redzone) Q) (r .text)) same-quarantine
+    ∙ ap (run watcher (fresh-state (length (q .shadow)) (length (q .table)) (q .redzone) (q .quarantine))) same-text
+    ∙ ap (λ st. run watcher st (q .text)) (sym (opened-is q))

@@ -33,7 +33,7 @@ shape r =
 pub rows-are-blocks : RowsAreBlocks
 unfolding held
 rows-are-blocks r =
-    let table : List ℕ = ran r .state .table in
+    let table : List ℕ = ran r .state .pool .table in
     let stands = replay-holds r .stands in
     let lives = stands .standing .lives in
     let blocks : List Block = latest (r .redzone) (r .quarantine) (happened r .released) in

@@ -14,8 +14,9 @@ use Rattle.rules.specs.declared.Session.{Session}
 use Rattle.rules.specs.declared.Frame.the-variants.{Grant}
 use Rattle.rules.specs.Limits.{line-feed}
 use Rattle.rules.specs.Grant.{counted}
-use Rattle.rules.specs.Release.{in-quarantine, weight}
+use Rattle.rules.specs.Release.{in-quarantine, weight, Pool}
 use Rattle.rules.specs.Feed.{State, run}
+use Rattle.rules.specs.Watcher.{watcher}
 use Rattle.rules.specs.Calls.{fresh, fits-lent, feed}
 use Rattle.rules.specs.Night.{bytes, text, by-the-rules}
 use Rattle.promises.specs.History.{lines-on, lines, Exchange, paired, exchanges, asks, status-of, value-of, block, at, others, done, heard, heard-all, history, latest, Block, has-byte}
@@ -43,11 +44,11 @@ neighbours = replay (text ("010000000100000000" ∷ "010000000100000000" ∷ [])
 abbrev neighbours-table : List ℕ
 neighbours-table = 2 ∷ 1 ∷ 1 ∷ 0 ∷ 5 ∷ 1 ∷ 1 ∷ 0 ∷ replicate 8 0
 
-neighbours-are : ran neighbours .state .table ≡ neighbours-table
+neighbours-are : ran neighbours .state .pool .table ≡ neighbours-table
 unfolding by-the-rules ran opened
 neighbours-are = refl
 
-pub redzone-sharp : ((r : Replay) → SeparatedIn (length (r .shadow)) (r .redzone + 1) (ran r .state .table)) → ⊥
+pub redzone-sharp : ((r : Replay) → SeparatedIn (length (r .shadow)) (r .redzone + 1) (ran r .state .pool .table)) → ⊥
 unfolding by-the-rules past
 redzone-sharp wider =
     let separated : SeparatedIn 16 3 neighbours-table = subst (SeparatedIn 16 3) neighbours-are (wider neighbours) in
@@ -60,7 +61,7 @@ redzone-sharp wider =
 abbrev seventeen : Replay
 seventeen = replay (text ("010000000900000000" ∷ "010000000800000000" ∷ "020000001000000000" ∷ "020000003000000000" ∷ []))
 
-seventeen-left : in-quarantine (ran seventeen .state .table) ≡ 1
+seventeen-left : in-quarantine (ran seventeen .state .pool .table) ≡ 1
 unfolding by-the-rules ran opened
 seventeen-left = refl
 
@@ -68,17 +69,17 @@ seventeen-run : latest 2 17 (happened seventeen .released) ≡ block 0x30 8 ∷ 
 unfolding by-the-rules happened log ran opened lines-on lines paired exchanges asks status-of value-of at others done heard heard-all history latest
 seventeen-run = refl
 
-pub quarantine-sharp : ((r : Replay) → QuarantinedIn (ran r .state .table) (latest (r .redzone) (r .quarantine + 1) (happened r .released))) → ⊥
+pub quarantine-sharp : ((r : Replay) → QuarantinedIn (ran r .state .pool .table) (latest (r .redzone) (r .quarantine + 1) (happened r .released))) → ⊥
 unfolding replay
 quarantine-sharp larger =
-    let count : in-quarantine (ran seventeen .state .table) ≡ length (latest 2 17 (happened seventeen .released)) = larger seventeen .count in
+    let count : in-quarantine (ran seventeen .state .pool .table) ≡ length (latest 2 17 (happened seventeen .released)) = larger seventeen .count in
     omega (arith, seventeen-left, ap length seventeen-run)
 
 -- a block of just Q is released, and stays
 abbrev sixteen : Replay
 sixteen = replay (text ("010000001000000000" ∷ "020000001000000000" ∷ []))
 
-sixteen-left : in-quarantine (ran sixteen .state .table) ≡ 1
+sixteen-left : in-quarantine (ran sixteen .state .pool .table) ≡ 1
 unfolding by-the-rules ran opened
 sixteen-left = refl
 
@@ -88,7 +89,7 @@ sixteen-released = refl
 
 pub heavier-sharp :
     ((r : Replay) (y : Block) (earlier : List Block) → happened r .released ≡ y ∷ earlier → r .quarantine ≤ weight (r .redzone) (y .size)
-    → in-quarantine (ran r .state .table) ≡ 0) → ⊥
+    → in-quarantine (ran r .state .pool .table) ≡ 0) → ⊥
 unfolding replay
 heavier-sharp sooner = omega (arith, sooner sixteen (block 0x10 16) [] sixteen-released (omega arith), sixteen-left)
 
@@ -153,7 +154,7 @@ passed-sharp always =
 -- ---- a longer report, and 12 bytes of room
 
 pub cutting-sharp :
-    ((st : State) (left : List ℕ) (calls : List Call) → chain st left calls .left ≡ [] → chain st left calls .ran ≡ run st (left ++ (line-feed ∷ []))) → ⊥
+    ((st : State Pool) (left : List ℕ) (calls : List Call) → chain watcher st left calls .left ≡ [] → chain watcher st left calls .ran ≡ run watcher st (left ++ (line-feed ∷ []))) → ⊥
 unfolding by-the-rules chain
 cutting-sharp longer =
     let same : _≡_ {A = ℕ} 0 13 = ap (λ r. length (r .report)) (longer (opened neighbours) [] [] refl) in

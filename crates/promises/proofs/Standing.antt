@@ -14,12 +14,12 @@ use Rattle.rules.specs.Limits.{granule, row-numbers, empty, live, quarantined}
 use Rattle.rules.specs.Lowest.{total, total-zero, total-suc}
 use Rattle.rules.specs.Put.{put}
 use Rattle.rules.specs.Table.{rows, column, start, size, state, is-empty, put-row}
-use Rattle.rules.specs.Grant.{granules, granted}
+use Rattle.rules.specs.Grant.{granules, granted, Fits}
 use Rattle.rules.specs.Release.{Pool, if-quarantined, in-quarantine, evict-row, quarantine-row, settle}
 use Rattle.rules.proofs.Tests.{by-order, if-true, if-false}
 use Rattle.rules.proofs.Lowest.{total-same, total-change, total-most}
 use Rattle.rules.proofs.Table.{rows-same, length-put-row, column-put-row, column-put-row-other}
-use Rattle.rules.proofs.Grant.{granules-above, Fits}
+use Rattle.rules.proofs.Grant.{granules-above}
 use Rattle.rules.proofs.Release.{Oldest, if-quarantined-no, if-quarantined-same, evict-row-rows, evict-row-empty, evict-row-other, evict-row-count, quarantine-row-lengths, quarantine-row-own, quarantine-row-other, quarantine-row-sum, settled-has}
 use Rattle.promises.specs.History.{Block, block, others}
 use Rattle.promises.specs.Rows.{_∈_, Held, of-row, RowOf}

@@ -11,14 +11,15 @@ use Rattle.rules.specs.declared.Region.the-variants.{Nowhere, LowMem, LowShadow
 use Rattle.rules.specs.Shadow.{first-bad}
 use Rattle.rules.specs.Answers.{status, in-numbers}
 use Rattle.rules.specs.Grant.{Acted, grant-at, grant}
-use Rattle.rules.specs.Release.{release-row, release}
-use Rattle.rules.specs.Feed.{State, access, act, emptied, act-line, finish}
-use Rattle.rules.specs.Calls.{FedWith, fits-lent, within-limits, grant-call, release-call, access-call, unfinished-call, feed}
+use Rattle.rules.specs.Release.{release-row, release, Pool}
+use Rattle.rules.specs.Feed.{State, emptied, act-line, finish}
+use Rattle.rules.specs.Watcher.{access, act, watcher, state-of, pool-of}
+use Rattle.rules.specs.Calls.{FedWith, fits-lent, within-limits, grant-call, release-call, access-call, unfinished-call, feed-by, feed}
 use Rattle.rules.specs.Maps.{region, map-answer, map-call}
 use Rattle.rules.proofs.Tests.{by-test, by-found}
 use Rattle.rules.proofs.Grant.{by-grant}
 use Rattle.rules.proofs.Release.{by-release}
-use Rattle.rules.proofs.Feed.{finish-refused}
+use Rattle.rules.proofs.Watcher.{finish-refused}
 use Rattle.rules.proofs.Calls.{by-open, open-refused, grant-call-refused, release-call-refused, feed-done, feed-24}
 use Rattle.rules.proofs.Refusals.{access-good, access-bad}
 use Rattle.promises.specs.Rows.{_∈_}
@@ -53,14 +54,14 @@ either P true p q = p
 either P false p q = q
 
 -- a line's answer, as a number
-line-number : (P : ℕ → Type 0) → P 0 → P 1 → P 2 → P 3 → P 5 → P 6 → P 7 → P 8 → P 9 → (st : State) → P (status (act-line st .answer))
+line-number : (P : ℕ → Type 0) → P 0 → P 1 → P 2 → P 3 → P 5 → P 6 → P 7 → P 8 → P 9 → (st : State Pool) → P (status (act-line watcher st .answer))
 unfolding act-line act status in-numbers
 line-number P done no-line no-kind not-zero no-row no-place foreign twice bad st =
-    by-line (λ k. P (status (act (st .session) (st .shadow) (st .table) k .answer))) no-line no-kind not-zero
-    (λ s fits. grant-number P done no-row no-place (st .session .redzone) (st .shadow) (st .table) s)
-    (λ a fits. release-number P done foreign twice (st .session .redzone) (st .session .quarantine) (st .shadow) (st .table) a)
-    (λ a n fits fits′. access-number P done bad (st .shadow) a n)
-    (λ a n fits fits′. access-number P done bad (st .shadow) a n)
+    by-line (λ k. P (status (act (st .session) (st .pool .shadow) (st .pool .table) k .answer))) no-line no-kind not-zero
+    (λ s fits. grant-number P done no-row no-place (st .session .redzone) (st .pool .shadow) (st .pool .table) s)
+    (λ a fits. release-number P done foreign twice (st .session .redzone) (st .session .quarantine) (st .pool .shadow) (st .pool .table) a)
+    (λ a n fits fits′. access-number P done bad (st .pool .shadow) a n)
+    (λ a n fits fits′. access-number P done bad (st .pool .shadow) a n)
     (st .session .unfinished) (st .session .line)
 
 -- a map's answer, as a number, of any map
@@ -90,7 +91,7 @@ one-of {n} {list} e = among-in n list e
 
 -- every call answers a number that is its own
 pub total : Total
-unfolding grant-call release-call access-call unfinished-call feed map-call status in-numbers
+unfolding grant-call release-call access-call unfinished-call feed-by map-call status in-numbers
 total = record {
   opening = λ shadow table R Q.
       by-open shadow table R Q (λ o. o .given .status ∈ (0 ∷ 21 ∷ 22 ∷ 23 ∷ []))
@@ -111,7 +112,7 @@ total = record {
   unfinished = λ session.
       either (λ (answer : Answer). status answer ∈ (0 ∷ 24 ∷ [])) (within-limits session) (one-of refl) (one-of refl);
   feed = λ session shadow table piece room.
-      either (λ (fed : FedWith). fed .given .status ∈ (0 ∷ 24 ∷ [])) (fits-lent session shadow table) (one-of refl) (one-of refl);
+      either (λ (fed : FedWith Pool). fed .given .status ∈ (0 ∷ 24 ∷ [])) (fits-lent session shadow table) (one-of refl) (one-of refl);
   line = line-number (λ n. n ∈ (0 ∷ 1 ∷ 2 ∷ 3 ∷ 5 ∷ 6 ∷ 7 ∷ 8 ∷ 9 ∷ []))
       (one-of refl) (one-of refl) (one-of refl) (one-of refl) (one-of refl) (one-of refl) (one-of refl) (one-of refl) (one-of refl);
   map = λ map a. map-number (λ n. n ∈ (0 ∷ 31 ∷ 32 ∷ [])) (one-of refl) (one-of refl) (one-of refl) (region map a);
@@ -128,9 +129,9 @@ refusals-keep = record {
   release = release-call-refused;
   feed = λ session shadow table piece room refused.
       by-test (fits-lent session shadow table)
-      (λ fits. absurd (refused (ap (λ fed. fed .given .status) (feed-done session shadow table piece room fits))))
-      (λ not. feed-24 session shadow table piece room not);
+      (λ fits. absurd (refused (ap (λ fed. fed .given .status) (feed-done watcher session (pool-of shadow table) piece room fits))))
+      (λ not. feed-24 watcher session (pool-of shadow table) piece room not);
   line = λ st refused.
-      let same : (finish st .state .shadow ≡ st .shadow) × (finish st .state .table ≡ st .table) = finish-refused st refused in
-      ap₂ (λ shadow table. record { session = emptied (st .session); shadow = shadow; table = table }) (same .0) (same .1);
+      let same : (finish watcher st .state .pool .shadow ≡ st .pool .shadow) × (finish watcher st .state .pool .table ≡ st .pool .table) = finish-refused st refused in
+      ap₂ (λ shadow table. state-of (emptied (st .session)) shadow table) (same .0) (same .1);
 }

@@ -1,6 +1,7 @@
 -- The user's three demands, in his order and in his words, and what else he was promised. Each statement is a definition of the files
 -- below; each proof has its name in `proofs/Demands.antt`. All is said of the definitions of `rules`, and so of the code: every public
 -- call's contract is that its result and every buffer are what `rules` says.
+use Rattle.rules.specs.Watcher.{watcher}
 use Rattle.promises.specs.Replay.{EveryLine, SameReport}
 use Rattle.promises.specs.Total.{Total, RefusalsKeep}
 use Rattle.promises.specs.Published.{ShadowBytes, Verdicts, Places, Map32, Map64}
@@ -28,11 +29,11 @@ pub record Demand2 : Type 0 where
 -- quarantine is granted again.
 pub record Demand3 : Type 0 where
   -- cut anywhere, with any room; and one who stops early has the first part of the report
-  pub cut-anywhere : Cutting
-  pub stopped-early : StopsEarly
+  pub cut-anywhere : Cutting watcher
+  pub stopped-early : StopsEarly watcher
   -- nobody is stuck
-  pub goes-on : GoesOn
-  pub finishes : Finishes
+  pub goes-on : GoesOn watcher
+  pub finishes : Finishes watcher
   -- every line is answered; reported exactly when, with the first such byte; outside the arena there is no block
   pub every-line : EveryLine
   pub reported : Reported
@@ -66,5 +67,5 @@ pub record Beyond : Type 0 where
   -- what a tester can quote
   pub two-blocks-reported : TwoBlocks
   pub reported-until-granted : UntilGranted
-  pub answers-so-far : SoFar
+  pub answers-so-far : SoFar watcher
   pub same-report : SameReport

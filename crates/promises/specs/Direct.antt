@@ -5,8 +5,10 @@ use mathlib.Core.Bool.{true}
 use mathlib.Core.List.{List, [], _∷_, _++_}
 use Rattle.rules.specs.Limits.{line-feed, kind-grant, kind-release, kind-read, kind-write}
 use Rattle.rules.specs.Grant.{Acted}
+use Rattle.rules.specs.Release.{Pool}
 use Rattle.rules.specs.Frames.{digits, answer-line}
 use Rattle.rules.specs.Feed.{State, Ran, emptied, run}
+use Rattle.rules.specs.Watcher.{watcher, state-of}
 use Rattle.rules.specs.Calls.{fits-lent, grant-call, release-call, access-call}
 
 -- a frame's line: kind (2), A (8), B (8), line feed
@@ -14,23 +16,23 @@ unfoldable pub line-of : ℕ → ℕ → ℕ → List ℕ
 line-of kind A B = (digits 2 kind ++ (digits 8 A ++ digits 8 B)) ++ (line-feed ∷ [])
 
 -- a session that fits the buffers, and no line unfinished
-pub record Idle (st : State) : Type 0 where
-  pub fits : fits-lent (st .session) (st .shadow) (st .table) ≡ true
+pub record Idle (st : State Pool) : Type 0 where
+  pub fits : fits-lent (st .session) (st .pool .shadow) (st .pool .table) ≡ true
   pub none-unfinished : st .session ≡ emptied (st .session)
 
 -- the state that a call leaves, and its answer as a line of a report
-abbrev pub told-as : State → Acted → Ran
+abbrev pub told-as : State Pool → Acted → Ran Pool
 told-as st acted = record {
-  state = record { session = st .session; shadow = acted .shadow; table = acted .table };
+  state = state-of (st .session) (acted .shadow) (acted .table);
   report = answer-line (acted .answer);
 }
 
 pub record DirectCalls : Type 0 where
-  pub grant : (st : State) → Idle st → (s : ℕ) → s < 2 ^ 32
-      → run st (line-of kind-grant s 0) ≡ told-as st (grant-call (st .session) (st .shadow) (st .table) s)
-  pub release : (st : State) → Idle st → (a : ℕ) → a < 2 ^ 32
-      → run st (line-of kind-release a 0) ≡ told-as st (release-call (st .session) (st .shadow) (st .table) a)
-  pub read : (st : State) → Idle st → (a n : ℕ) → a < 2 ^ 32 → n < 2 ^ 32
-      → run st (line-of kind-read a n) ≡ record { state = st; report = answer-line (access-call (st .session) (st .shadow) (st .table) a n) }
-  pub write : (st : State) → Idle st → (a n : ℕ) → a < 2 ^ 32 → n < 2 ^ 32
-      → run st (line-of kind-write a n) ≡ record { state = st; report = answer-line (access-call (st .session) (st .shadow) (st .table) a n) }
+  pub grant : (st : State Pool) → Idle st → (s : ℕ) → s < 2 ^ 32
+      → run watcher st (line-of kind-grant s 0) ≡ told-as st (grant-call (st .session) (st .pool .shadow) (st .pool .table) s)
+  pub release : (st : State Pool) → Idle st → (a : ℕ) → a < 2 ^ 32
+      → run watcher st (line-of kind-release a 0) ≡ told-as st (release-call (st .session) (st .pool .shadow) (st .pool .table) a)
+  pub read : (st : State Pool) → Idle st → (a n : ℕ) → a < 2 ^ 32 → n < 2 ^ 32
+      → run watcher st (line-of kind-read a n) ≡ record { state = st; report = answer-line (access-call (st .session) (st .pool .shadow) (st .pool .table) a n) }
+  pub write : (st : State Pool) → Idle st → (a n : ℕ) → a < 2 ^ 32 → n < 2 ^ 32
+      → run watcher st (line-of kind-write a n) ≡ record { state = st; report = answer-line (access-call (st .session) (st .pool .shadow) (st .pool .table) a n) }

@@ -23,7 +23,7 @@ pub record SeparatedIn (S R : ℕ) (table : List ℕ) : Type 0 where
   pub inside : (i : ℕ) → Held table i → Inside S R (of-row table i)
 
 abbrev pub Separation : Type 0
-Separation = (r : Replay) → SeparatedIn (length (r .shadow)) (r .redzone) (ran r .state .table)
+Separation = (r : Replay) → SeparatedIn (length (r .shadow)) (r .redzone) (ran r .state .pool .table)
 
 -- ---- the quarantine
 
@@ -43,7 +43,7 @@ pub record QuarantinedIn (table : List ℕ) (blocks : List Block) : Type 0 where
 pub record Quarantine : Type 0 where
   pub longest : (R Q : ℕ) (released : List Block) → LongestRun R Q released (latest R Q released)
   pub only : (R Q : ℕ) (released first second : List Block) → LongestRun R Q released first → LongestRun R Q released second → first ≡ second
-  pub quarantined : (r : Replay) → QuarantinedIn (ran r .state .table) (latest (r .redzone) (r .quarantine) (happened r .released))
+  pub quarantined : (r : Replay) → QuarantinedIn (ran r .state .pool .table) (latest (r .redzone) (r .quarantine) (happened r .released))
 
 -- a release that is done is answered how many left by it: those that were quarantined and the one released, less those that are
 abbrev pub Evicted : Type 0
@@ -63,7 +63,7 @@ NotAgain = (r : Replay) (before : List Exchange) (x : Exchange) → Line r befor
 -- a block heavier than Q leaves at once: where it is the latest release, nothing is quarantined
 abbrev pub Heavier : Type 0
 Heavier = (r : Replay) (y : Block) (earlier : List Block) → happened r .released ≡ y ∷ earlier → r .quarantine < weight (r .redzone) (y .size)
-    → in-quarantine (ran r .state .table) ≡ 0
+    → in-quarantine (ran r .state .pool .table) ≡ 0
 
 -- a grant never evicts: of any buffers, every row that is not empty stands as it did
 abbrev pub NeverEvicts : Type 0

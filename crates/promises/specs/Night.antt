@@ -6,6 +6,7 @@ use mathlib.Core.Bool.{true, false}
 use mathlib.Core.List.{List, [], _∷_}
 use lib.ListN.{drop, replicate}
 use Rattle.rules.specs.Limits.{granule, kind-grant}
+use Rattle.rules.specs.Watcher.{watcher}
 use Rattle.rules.specs.Night.{text, opened, trace, answers, shadow-after, table-after, state-after, by-the-rules}
 use Rattle.promises.specs.History.{block, has-byte, lines-on, lines, paired, exchanges, asks, status-of, value-of, at, others, done, heard, heard-all, history, latest}
 use Rattle.promises.specs.Replay.{Replay, ran, log, happened}
@@ -52,19 +53,19 @@ abbrev answer-room : Call
 answer-room = record { offered = 304; room = replicate 13 0 }
 
 pub night-chained :
-    chain (opened 16 2 16 4) (text trace) (replicate 16 answer-room)
+    chain watcher (opened 16 2 16 4) (text trace) (replicate 16 answer-room)
     ≡ record { ran = record { state = state-after; report = text answers }; left = [] }
 unfolding by-the-rules chain
 night-chained = refl
 
 -- two of them have two answers, and have taken the third line up to its line feed
 pub night-early :
-    chain (opened 16 2 16 4) (text trace) (replicate 2 answer-room) .ran .report
+    chain watcher (opened 16 2 16 4) (text trace) (replicate 2 answer-room) .ran .report
     ≡ text ("000000000010" ∷ "000000000000" ∷ [])
 unfolding by-the-rules chain
 night-early = refl
 
-pub night-left : chain (opened 16 2 16 4) (text trace) (replicate 2 answer-room) .left ≡ drop 56 (text trace)
+pub night-left : chain watcher (opened 16 2 16 4) (text trace) (replicate 2 answer-room) .left ≡ drop 56 (text trace)
 unfolding by-the-rules chain
 night-left = refl
 
@@ -75,7 +76,7 @@ pairs (suc n) first second = first ∷ second ∷ pairs n first second
 
 -- pieces of 7 bytes, each with too little room and then with enough: whatever the cutting, the report is the same
 pub night-cut :
-    chain (opened 16 2 16 4) (text trace) (pairs 60 (record { offered = 7; room = replicate 12 0 }) (record { offered = 7; room = replicate 20 0xff }))
+    chain watcher (opened 16 2 16 4) (text trace) (pairs 60 (record { offered = 7; room = replicate 12 0 }) (record { offered = 7; room = replicate 20 0xff }))
     ≡ record { ran = record { state = state-after; report = text answers }; left = [] }
 unfolding by-the-rules chain pairs
 night-cut = refl
@@ -88,7 +89,7 @@ direct-line = refl
 -- ---- both sides of a limit
 
 -- with 12 bytes of room a call takes a line up to its line feed, and the next one nothing
-pub twelve-bytes : chain (opened 16 2 16 4) (text trace) (replicate 3 (record { offered = 304; room = replicate 12 0 })) .left ≡ drop 18 (text trace)
+pub twelve-bytes : chain watcher (opened 16 2 16 4) (text trace) (replicate 3 (record { offered = 304; room = replicate 12 0 })) .left ≡ drop 18 (text trace)
 unfolding by-the-rules chain
 twelve-bytes = refl
 

@@ -9,13 +9,11 @@ use lib.ListN.{length, getD, replicate}
 use Rattle.rules.specs.declared.Verdict.the-variants.{Good, Bad}
 use Rattle.rules.specs.declared.Map.{Map}
 use Rattle.rules.specs.Table.{start, size}
-use Rattle.rules.specs.Shadow.{leading, negative, addressable, kind, judge}
-use Rattle.rules.specs.Grant.{granules, place, granted}
+use Rattle.rules.specs.Shadow.{leading, negative, addressable, kind, judge, AllGood, FirstBad}
+use Rattle.rules.specs.Grant.{granules, place, granted, Fits, Place}
 use Rattle.rules.specs.Release.{Pool, evict-row, quarantine-row}
 use Rattle.rules.specs.Calls.{open-with}
 use Rattle.rules.specs.Maps.{map32, map64, map-call}
-use Rattle.rules.proofs.Shadow.{AllGood, FirstBad}
-use Rattle.rules.proofs.Grant.{Fits, Place}
 
 -- ---- the shadow byte
 

@@ -3,7 +3,9 @@ use Prim.Native.Nat.{ℕ}
 use mathlib.Core.Path.{_≡_}
 use mathlib.Core.List.{List, _∷_, _++_}
 use lib.ListN.{length}
+use Rattle.rules.specs.Release.{Pool}
 use Rattle.rules.specs.Feed.{State, Ran, run}
+use Rattle.rules.specs.Watcher.{watcher, state-of}
 use Rattle.rules.specs.Calls.{OpenedWith, open-with}
 use Rattle.promises.specs.History.{lines, Exchange, exchanges, History, history}
 
@@ -16,14 +18,14 @@ pub record Replay : Type 0 where
   pub accepted : open-with shadow table redzone quarantine .given .status ≡ 0
   pub text : List ℕ
 
-unfoldable pub opened : Replay → State
+unfoldable pub opened : Replay → State Pool
 opened r =
     let o : OpenedWith = open-with (r .shadow) (r .table) (r .redzone) (r .quarantine) in
-    record { session = o .given .session; shadow = o .shadow; table = o .table }
+    state-of (o .given .session) (o .shadow) (o .table)
 
 -- the state and the report after the text
-unfoldable pub ran : Replay → Ran
-ran r = run (opened r) (r .text)
+unfoldable pub ran : Replay → Ran Pool
+ran r = run watcher (opened r) (r .text)
 
 -- the text's lines with their answers
 unfoldable pub log : Replay → List Exchange

@@ -25,7 +25,7 @@ pub record ShapedAs (S : ℕ) (shadow table : List ℕ) : Type 0 where
   pub shadow-is : shadow ≡ drawn table S 0
 
 abbrev pub Shape : Type 0
-Shape = (r : Replay) → ShapedAs (length (r .shadow)) (ran r .state .shadow) (ran r .state .table)
+Shape = (r : Replay) → ShapedAs (length (r .shadow)) (ran r .state .pool .shadow) (ran r .state .pool .table)
 
 -- the live rows are the blocks granted and not yet released, the quarantined rows the latest releases, and no row is empty exactly when
 -- as many blocks are held as there are rows
@@ -35,7 +35,7 @@ pub record RowsAre (table : List ℕ) (live-blocks quarantine : List Block) : Ty
   pub full : (length (live-blocks ++ quarantine) ≡ rows table) ↔ ((i : ℕ) → i < rows table → state table i ≢ empty)
 
 abbrev pub RowsAreBlocks : Type 0
-RowsAreBlocks = (r : Replay) → RowsAre (ran r .state .table) (happened r .live) (latest (r .redzone) (r .quarantine) (happened r .released))
+RowsAreBlocks = (r : Replay) → RowsAre (ran r .state .pool .table) (happened r .live) (latest (r .redzone) (r .quarantine) (happened r .released))
 
 -- each shadow byte is 0, a first k, or negative; and of all bytes, exactly those of live blocks are addressable
 pub record EncodedIn (shadow : List ℕ) (blocks : List Block) : Type 0 where
@@ -43,4 +43,4 @@ pub record EncodedIn (shadow : List ℕ) (blocks : List Block) : Type 0 where
   pub addressable-is : (b : ℕ) → addressable shadow b ≡ lies-in blocks b
 
 abbrev pub Encoding : Type 0
-Encoding = (r : Replay) → EncodedIn (ran r .state .shadow) (happened r .live)
+Encoding = (r : Replay) → EncodedIn (ran r .state .pool .shadow) (happened r .live)

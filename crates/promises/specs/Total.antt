@@ -6,7 +6,9 @@ use mathlib.Core.List.{List, [], _∷_}
 use Rattle.rules.specs.declared.Session.{Session}
 use Rattle.rules.specs.declared.Map.{Map}
 use Rattle.rules.specs.Answers.{status}
+use Rattle.rules.specs.Release.{Pool}
 use Rattle.rules.specs.Feed.{State, emptied, act-line, finish}
+use Rattle.rules.specs.Watcher.{watcher, state-of, pool-of}
 use Rattle.rules.specs.Calls.{closed, open-with, grant-call, release-call, access-call, unfinished-call, feed}
 use Rattle.rules.specs.Maps.{map-call}
 use Rattle.promises.specs.Rows.{_∈_}
@@ -19,7 +21,7 @@ pub record Total : Type 0 where
   pub access : (session : Session) (shadow table : List ℕ) (a n : ℕ) → status (access-call session shadow table a n) ∈ (0 ∷ 9 ∷ 24 ∷ [])
   pub unfinished : (session : Session) → status (unfinished-call session) ∈ (0 ∷ 24 ∷ [])
   pub feed : (session : Session) (shadow table piece room : List ℕ) → feed session shadow table piece room .given .status ∈ (0 ∷ 24 ∷ [])
-  pub line : (st : State) → status (act-line st .answer) ∈ (0 ∷ 1 ∷ 2 ∷ 3 ∷ 5 ∷ 6 ∷ 7 ∷ 8 ∷ 9 ∷ [])
+  pub line : (st : State Pool) → status (act-line watcher st .answer) ∈ (0 ∷ 1 ∷ 2 ∷ 3 ∷ 5 ∷ 6 ∷ 7 ∷ 8 ∷ 9 ∷ [])
   pub map : (map : Map) (a : ℕ) → map-call map a .status ∈ (0 ∷ 31 ∷ 32 ∷ [])
 
 -- refused, that is answered another number than 00, none changes anything; a line that is refused is emptied, and that is all
@@ -32,6 +34,10 @@ pub record RefusalsKeep : Type 0 where
       → (release-call session shadow table a .shadow ≡ shadow) × (release-call session shadow table a .table ≡ table)
   pub feed : (session : Session) (shadow table piece room : List ℕ) → feed session shadow table piece room .given .status ≢ 0
       → feed session shadow table piece room
-      ≡ record { given = record { session = session; status = 24; taken = 0; wrote = 0 }; shadow = shadow; table = table; room = room }
-  pub line : (st : State) → status (act-line st .answer) ≢ 0
-      → finish st .state ≡ record { session = emptied (st .session); shadow = st .shadow; table = st .table }
+      ≡ record {
+        given = record { session = session; status = 24; taken = 0; wrote = 0 };
+        pool = pool-of shadow table;
+        room = room;
+      }
+  pub line : (st : State Pool) → status (act-line watcher st .answer) ≢ 0
+      → finish watcher st .state ≡ state-of (emptied (st .session)) (st .pool .shadow) (st .pool .table)

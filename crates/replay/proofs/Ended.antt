@@ -10,6 +10,8 @@ use Rattle.rules.specs.declared.Reply.{Reply}
 use Rattle.rules.specs.declared.Answer.the-variants.{Done}
 use Rattle.rules.specs.Limits.{too-long}
 use Rattle.rules.specs.Answers.{in-numbers}
+use Rattle.rules.specs.Release.{Pool}
+use Rattle.rules.specs.Watcher.{state-of, watcher}
 use Rattle.rules.specs.Calls.{within-limits, fits-lent, unfinished-call}
 use Rattle.rules.specs.Feed.{State, run}
 use Rattle.rules.proofs.Tests.{if-true, if-false}
@@ -18,7 +20,7 @@ use Rattle.tally.specs.Tally.{none, with-report, verdict}
 use Rattle.tally.specs.Verdict.{Passed, judged}
 use Rattle.tally.proofs.Judged.{passed, not-passed}
 use Rattle.replay.specs.declared.offer.Run.{Run}
-use Rattle.replay.specs.Offer.{state-of, Leads, left, Ends}
+use Rattle.replay.specs.Offer.{Leads, left, Ends}
 
 module _ (session : Session) (reply : Reply) (is : reply ≡ in-numbers (unfinished-call session)) where
   pub left-unsaid : (reply .status ≡ 0 → ⊥) → too-long ≡ left session
@@ -53,14 +55,14 @@ module _ (begun : Run) {shadow table text shadow-after table-after : List ℕ} {
       → verdict (ran .tally) (left (ran .session)) ≡ judged (state-of (begun .session) shadow table) text
   unfolding judged
   ended fresh fits leads =
-      let st : State = state-of (begun .session) shadow table in
-      let there : Session = run st text .state .session in
+      let st : State Pool = state-of (begun .session) shadow table in
+      let there : Session = run watcher st text .state .session in
       let lent = run-lent st text (lent-true (begun .session) shadow table fits) in
       let session-is : ran .session ≡ there = ap (λ s. s .session) (leads .state) in
-      let tally-is : ran .tally ≡ with-report none (run st text .report) = leads .tally ∙ ap (λ t. with-report t (run st text .report)) fresh in
+      let tally-is : ran .tally ≡ with-report none (run watcher st text .report) = leads .tally ∙ ap (λ t. with-report t (run watcher st text .report)) fresh in
       ap (λ t. verdict t (left (ran .session))) tally-is
-      ∙ ap (λ s. verdict (with-report none (run st text .report)) (left s)) session-is
-      ∙ ap (verdict (with-report none (run st text .report))) (left-within there (within-is there (lent .within)))
+      ∙ ap (λ s. verdict (with-report none (run watcher st text .report)) (left s)) session-is
+      ∙ ap (verdict (with-report none (run watcher st text .report))) (left-within there (within-is there (lent .within)))
 
   -- so a verdict of 0 is of a text whose every line was done, and whose last line is finished
   pub ended-passed : begun .tally ≡ none → fits-lent (begun .session) shadow table ≡ true → Leads begun shadow table text ran shadow-after table-after

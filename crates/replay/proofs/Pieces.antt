@@ -8,8 +8,10 @@ use lib.ListN.{length, take, drop, length-take}
 use lib.Seq.{take-append-seam, take-add, take-all, take-take}
 use Rattle.rules.specs.declared.Session.{Session}
 use Rattle.rules.specs.declared.Fed.{Fed}
+use Rattle.rules.specs.Release.{Pool}
 use Rattle.rules.specs.Feed.{State, run, run-nil, taken}
 use Rattle.rules.specs.Put.{put}
+use Rattle.rules.specs.Watcher.{state-of, watcher, pool-of}
 use Rattle.rules.specs.Calls.{FedWith, fits-lent, feed}
 use Rattle.rules.proofs.Tests.{by-test}
 use Rattle.rules.proofs.Feed.{run-append, run-report, line-feeds}
@@ -18,7 +20,7 @@ use Rattle.tally.specs.Tally.{with-answers-zero, with-report}
 use Rattle.tally.proofs.Judged.{with-report-append}
 use Rattle.watcher.specs.Calls.{FeedCall}
 use Rattle.replay.specs.declared.offer.Run.{Run}
-use Rattle.replay.specs.Offer.{state-of, Kept, Leads, Taken}
+use Rattle.replay.specs.Offer.{Kept, Leads, Taken}
 
 -- an error that was said is no whole run
 pub never {ℓ} : {P : Type ℓ} {b : Bool} → b ≡ false → b ≡ true → P
@@ -27,54 +29,54 @@ never stopped whole = absurd (subst (λ b. elim b as (λ _. Type 0) [ true ↦ �
 -- ---- what a feed's answer leads to
 
 -- the session, the shadow and the table are those of the rules over the bytes taken, and the bytes written are the report
-abbrev Ran : State → List ℕ → FedWith → Type 0
-Ran st part f =
-    (state-of (f .given .session) (f .shadow) (f .table) ≡ run st (take (f .given .taken) part) .state)
-    × (take (f .given .wrote) (f .room) ≡ run st (take (f .given .taken) part) .report)
+abbrev Runs : State Pool → List ℕ → FedWith Pool → Type 0
+Runs st part f =
+    (state-of (f .given .session) (f .pool .shadow) (f .pool .table) ≡ run watcher st (take (f .given .taken) part) .state)
+    × (take (f .given .wrote) (f .room) ≡ run watcher st (take (f .given .taken) part) .report)
 
 module _ (session : Session) (shadow table part room : List ℕ) where
   done-lent : feed session shadow table part room .given .status ≡ 0 → fits-lent session shadow table ≡ true
   done-lent done =
       by-test (fits-lent session shadow table) (λ fits. fits)
-      (λ fails. absurd (omega (arith, done, ap (λ f. f .given .status) (feed-24 session shadow table part room fails))))
+      (λ fails. absurd (omega (arith, done, ap (λ f. f .given .status) (feed-24 watcher session (pool-of shadow table) part room fails))))
 
-  ran : feed session shadow table part room .given .status ≡ 0 → Ran (state-of session shadow table) part (feed session shadow table part room)
+  ran : feed session shadow table part room .given .status ≡ 0 → Runs (state-of session shadow table) part (feed session shadow table part room)
   unfolding put
   ran done =
-      subst (Ran (state-of session shadow table) part) (sym (feed-done session shadow table part room (done-lent done)))
-      (refl, take-append-seam (run (state-of session shadow table) (take (taken part (length room)) part) .report) _)
+      subst (Runs (state-of session shadow table) part) (sym (feed-done watcher session (pool-of shadow table) part room (done-lent done)))
+      (refl, take-append-seam (run watcher (state-of session shadow table) (take (taken part (length room)) part) .report) _)
 
 -- what a feed hands back, as the calls' rule has it
-abbrev fed-of : Fed → List ℕ → List ℕ → List ℕ → FedWith
-fed-of given shadow table room = record { given = given; shadow = shadow; table = table; room = room }
+abbrev fed-of : Fed → List ℕ → List ℕ → List ℕ → FedWith Pool
+fed-of given shadow table room = record { given = given; pool = pool-of shadow table; room = room }
 
 module _ (before : Run) {shadow table part room shadow-after table-after room-after : List ℕ} {fed : Fed} where
   given-is : FeedCall (before .session) shadow table part room fed shadow-after table-after room-after
       → fed-of fed shadow-after table-after room-after ≡ feed (before .session) shadow table part room
   given-is f =
-      let rules : FedWith = feed (before .session) shadow table part room in
+      let rules : FedWith Pool = feed (before .session) shadow table part room in
       ap (λ given. fed-of given shadow-after table-after room-after) (f .given)
       ∙ ap (λ shadow. fed-of (rules .given) shadow table-after room-after) (f .shadow)
-      ∙ ap (λ table. fed-of (rules .given) (rules .shadow) table room-after) (f .table)
-      ∙ ap (fed-of (rules .given) (rules .shadow) (rules .table)) (f .room)
+      ∙ ap (λ table. fed-of (rules .given) (rules .pool .shadow) table room-after) (f .table)
+      ∙ ap (fed-of (rules .given) (rules .pool .shadow) (rules .pool .table)) (f .room)
 
   pub kept-taken : {r : Run}
       → FeedCall (before .session) shadow table part room fed shadow-after table-after room-after
       → Kept before fed (length part) room-after r
       → Taken before shadow table part r shadow-after table-after
   kept-taken {r = r} f kept =
-      let st : State = state-of (before .session) shadow table in
+      let st : State Pool = state-of (before .session) shadow table in
       let is : fed-of fed shadow-after table-after room-after ≡ feed (before .session) shadow table part room = given-is f in
-      let rules : Ran st part (fed-of fed shadow-after table-after room-after) =
-      subst (Ran st part) (sym is) (ran (before .session) shadow table part room (sym (ap (λ f. f .given .status) is) ∙ kept .done))
+      let rules : Runs st part (fed-of fed shadow-after table-after room-after) =
+      subst (Runs st part) (sym is) (ran (before .session) shadow table part room (sym (ap (λ f. f .given .status) is) ∙ kept .done))
       in
       let bytes : fed .taken ≡ r .taken = sym (kept .taken) in
       record {
         some = omega (arith, kept .some, bytes);
         most = omega (arith, kept .most, bytes);
         leads = record {
-          state = ap (λ s. state-of s shadow-after table-after) (kept .session) ∙ rules .0 ∙ ap (λ n. run st (take n part) .state) bytes;
-          tally = kept .tally ∙ ap (with-report (before .tally)) (rules .1 ∙ ap (λ n. run st (take n part) .report) bytes);
+          state = ap (λ s. state-of s shadow-after table-after) (kept .session) ∙ rules .0 ∙ ap (λ n. run watcher st (take n part) .state) bytes;
+          tally = kept .tally ∙ ap (with-report (before .tally)) (rules .1 ∙ ap (λ n. run watcher st (take n part) .report) bytes);
         };
       }
 
@@ -83,23 +85,23 @@ module _ (before : Run) {shadow table part room shadow-after table-after room-af
 pub leads-nothing : (before : Run) (shadow table piece : List ℕ) → Leads before shadow table (take 0 piece) before shadow table
 unfolding with-report
 leads-nothing before shadow table piece = record {
-  state = sym (ap (λ r. r .state) (run-nil (state-of (before .session) shadow table)));
-  tally = sym (ap (λ r. with-report (before .tally) (r .report)) (run-nil (state-of (before .session) shadow table)) ∙ with-answers-zero (before .tally) []);
+  state = sym (ap (λ r. r .state) (run-nil watcher (state-of (before .session) shadow table)));
+  tally = sym (ap (λ r. with-report (before .tally) (r .report)) (run-nil watcher (state-of (before .session) shadow table)) ∙ with-answers-zero (before .tally) []);
 }
 
 module _ (before : Run) {shadow table shadow-mid table-mid shadow-after table-after : List ℕ} {mid r : Run} (first second : List ℕ) where
   pub leads-append : Leads before shadow table first mid shadow-mid table-mid → Leads mid shadow-mid table-mid second r shadow-after table-after
       → Leads before shadow table (first ++ second) r shadow-after table-after
   leads-append one two =
-      let st : State = state-of (before .session) shadow table in
-      let whole = run-append st first second in
+      let st : State Pool = state-of (before .session) shadow table in
+      let whole = run-append watcher st first second in
       record {
-        state = two .state ∙ ap (λ s. run s second .state) (one .state) ∙ sym (ap (λ r. r .state) whole);
+        state = two .state ∙ ap (λ s. run watcher s second .state) (one .state) ∙ sym (ap (λ r. r .state) whole);
         tally =
             two .tally
-            ∙ ap (λ t. with-report t (run (state-of (mid .session) shadow-mid table-mid) second .report)) (one .tally)
-            ∙ ap (λ s. with-report (with-report (before .tally) (run st first .report)) (run s second .report)) (one .state)
-            ∙ with-report-append (before .tally) (run st first .report) (run (run st first .state) second .report) (line-feeds first) (run-report st first)
+            ∙ ap (λ t. with-report t (run watcher (state-of (mid .session) shadow-mid table-mid) second .report)) (one .tally)
+            ∙ ap (λ s. with-report (with-report (before .tally) (run watcher st first .report)) (run watcher s second .report)) (one .state)
+            ∙ with-report-append (before .tally) (run watcher st first .report) (run watcher (run watcher st first .state) second .report) (line-feeds first) (run-report watcher st first)
             ∙ sym (ap (λ r. with-report (before .tally) (r .report)) whole);
       }
 

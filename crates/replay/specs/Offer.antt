@@ -8,15 +8,14 @@ use lib.ListN.{length, take}
 use lib.Dec.{eqb}
 use Rattle.rules.specs.declared.Session.{Session}
 use Rattle.rules.specs.declared.Fed.{Fed}
+use Rattle.rules.specs.Release.{Pool}
 use Rattle.rules.specs.Feed.{State, run}
 use Rattle.rules.specs.Limits.{too-long}
 use Rattle.rules.specs.Answers.{in-numbers}
+use Rattle.rules.specs.Watcher.{watcher, state-of}
 use Rattle.rules.specs.Calls.{unfinished-call}
 use Rattle.tally.specs.Tally.{with-report, verdict}
 use Rattle.replay.specs.declared.offer.Run.{Run}
-
-abbrev pub state-of : Session → List ℕ → List ℕ → State
-state-of session shadow table = record { session = session; shadow = shadow; table = table }
 
 -- what is kept of a feed that was offered so many bytes, and left its report in a room
 pub record Kept (before : Run) (fed : Fed) (offered : ℕ) (room : List ℕ) (r : Run) : Type 0 where
@@ -29,8 +28,8 @@ pub record Kept (before : Run) (fed : Fed) (offered : ℕ) (room : List ℕ) (r 
 
 -- the rules over a text lead from one run to another
 pub record Leads (before : Run) (shadow table text : List ℕ) (r : Run) (shadow-after table-after : List ℕ) : Type 0 where
-  pub state : state-of (r .session) shadow-after table-after ≡ run (state-of (before .session) shadow table) text .state
-  pub tally : r .tally ≡ with-report (before .tally) (run (state-of (before .session) shadow table) text .report)
+  pub state : state-of (r .session) shadow-after table-after ≡ run watcher (state-of (before .session) shadow table) text .state
+  pub tally : r .tally ≡ with-report (before .tally) (run watcher (state-of (before .session) shadow table) text .report)
 
 -- of a part that was offered once, some is taken
 pub record Taken (before : Run) (shadow table part : List ℕ) (r : Run) (shadow-after table-after : List ℕ) : Type 0 where

@@ -8,10 +8,10 @@ use mathlib.Core.Option.{none, some}
 use mathlib.Core.List.{List}
 use lib.ListN.{length, getD}
 use Rattle.rules.specs.Limits.{redzone-byte}
-use Rattle.rules.specs.Grant.{place}
+use Rattle.rules.specs.Grant.{place, AllFree, Fits}
 use Rattle.rules.proofs.Tests.{by-order}
 use Rattle.rules.proofs.Lowest.{and-next}
-use Rattle.rules.proofs.Grant.{AllFree, Fits, place-is, place-no}
+use Rattle.rules.proofs.Grant.{place-is, place-no}
 
 -- no place fits whose window begins before start
 pub record Sought (shadow : List ℕ) (R u start : ℕ) : Type 0 where

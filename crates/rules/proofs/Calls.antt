@@ -15,30 +15,19 @@ use Rattle.rules.specs.declared.Answer.the-variants.{Done, BadShadowLeng
 use Rattle.rules.specs.declared.Frame.the-variants.{Grant, Release, Read}
 use Rattle.rules.specs.Limits.{between, least-granules, most-granules, least-rows, most-rows, row-numbers, least-redzone, most-redzone, frame-digits, too-long, redzone-byte}
 use Rattle.rules.specs.Answers.{in-numbers, status}
-use Rattle.rules.specs.Lowest.{lowest, found, all-equal}
+use Rattle.rules.specs.Lowest.{lowest, found, all-equal, AllEqual}
 use Rattle.rules.specs.Grant.{unchanged}
-use Rattle.rules.specs.Feed.{State, Ran, no-bytes, with-line, emptied, lengthened, act, finish, hold, step, run, taken}
-use Rattle.rules.specs.Calls.{closed, fresh, table-length, OpenedWith, not-opened, open-with, unused-zero, within-limits, fits-lent, grant-call, release-call, access-call, unfinished-call, fed-with, feed}
+use Rattle.rules.specs.Release.{Pool}
+use Rattle.rules.specs.Feed.{Engine, State, Ran, no-bytes, with-line, emptied, lengthened, act-line, finish, hold, step, run, taken}
+use Rattle.rules.specs.Watcher.{act, pool-of, lent-lengths, watcher, state-of}
+use Rattle.rules.specs.Calls.{closed, fresh, table-length, OpenedWith, not-opened, open-with, unused-zero, within-limits, fits-lent, grant-call, release-call, access-call, unfinished-call, fed-with, feed, Within, Lent, LentState, fits-session, KeepsLengths, FedWith, feed-by}
 use Rattle.rules.proofs.Tests.{between-is, between-true, both, by-order, by-test, if-false, if-true, join}
-use Rattle.rules.proofs.Lowest.{walk-found, walk-on, walk-end, AllEqual, all-equal-true, all-equal-is}
+use Rattle.rules.proofs.Lowest.{walk-found, walk-on, walk-end, all-equal-true, all-equal-is}
 use Rattle.rules.proofs.Put.{length-put, put-after, put-nothing}
-use Rattle.rules.proofs.Feed.{RefusedKeeps, grant-refused, release-refused, SameNumbers, lengthened-short, lengthened-long, by-byte, step-numbers, step-lengths, run-has, run-report, taken-fits}
+use Rattle.rules.proofs.Feed.{SameNumbers, lengthened-short, lengthened-long, by-byte, step-numbers, run-has, run-report, taken-fits}
+use Rattle.rules.proofs.Watcher.{RefusedKeeps, grant-refused, release-refused, act-lengths}
 
 -- ---- the check behind 24
-
--- every field is within its limits, and unused places are zero
-pub record Within (session : Session) : Type 0 where
-  pub granules : between least-granules most-granules (session .granules) ≡ true
-  pub rows : between least-rows most-rows (session .rows) ≡ true
-  pub redzone : between least-redzone most-redzone (session .redzone) ≡ true
-  pub unfinished : session .unfinished ≤ too-long
-  pub unused : AllEqual (session .line) 0 (session .unfinished) frame-digits
-
--- and the lent lengths are the session's
-pub record Lent (session : Session) (shadow table : List ℕ) : Type 0 where
-  pub within : Within session
-  pub of-shadow : length shadow ≡ session .granules
-  pub of-table : length table ≡ row-numbers * session .rows
 
 pub unused-true : (line : List ℕ) (n : ℕ) → unused-zero line n ≡ true → AllEqual line 0 n frame-digits
 unfolding unused-zero
@@ -85,21 +74,22 @@ within-is session w =
     (unused-is (session .line) (session .unfinished) (w .unused))
 
 pub lent-true : (session : Session) (shadow table : List ℕ) → fits-lent session shadow table ≡ true → Lent session shadow table
-unfolding fits-lent
+unfolding fits-session lent-lengths
 lent-true session shadow table e =
     let a = both e in
-    let b = both (a .0) in
+    let b = both (a .1) in
     record {
-      within = within-true session (b .0);
-      of-shadow = eqb-true (length shadow) (session .granules) (b .1);
-      of-table = eqb-true (length table) (row-numbers * session .rows) (a .1);
+      within = within-true session (a .0);
+      of-shadow = eqb-true (length shadow) (session .granules) (b .0);
+      of-table = eqb-true (length table) (row-numbers * session .rows) (b .1);
     }
 
 pub lent-is : (session : Session) (shadow table : List ℕ) → Lent session shadow table → fits-lent session shadow table ≡ true
-unfolding fits-lent
+unfolding fits-session lent-lengths
 lent-is session shadow table l =
-    join (join (within-is session (l .within)) (eq-eqb (length shadow) (session .granules) (l .of-shadow)))
-    (eq-eqb (length table) (row-numbers * session .rows) (l .of-table))
+    join (within-is session (l .within))
+    (join (eq-eqb (length shadow) (session .granules) (l .of-shadow))
+    (eq-eqb (length table) (row-numbers * session .rows) (l .of-table)))
 
 -- so what is lent is within the paper's limits
 pub lent-granules : {session : Session} {shadow table : List ℕ} → Lent session shadow table → length shadow ≤ most-granules
@@ -113,7 +103,7 @@ lent-redzone {session} l = between-is least-redzone most-redzone (session .redzo
 
 -- a closed session fits nothing
 pub closed-refused : (shadow table : List ℕ) → fits-lent closed shadow table ≡ false
-unfolding fits-lent within-limits
+unfolding fits-session within-limits
 closed-refused shadow table = refl
 
 -- ---- a session that is handed back is taken again
@@ -147,25 +137,52 @@ lengthened-within session b w =
     subst Within (sym (lengthened-long session b long))
     (within-line session too-long (session .line) w (omega arith) (λ k from below. absurd (omega arith))))
 
-abbrev pub LentState : State → Type 0
-LentState st = Lent (st .session) (st .shadow) (st .table)
+-- a session that fits its pool fits what a byte, and what a text leaves, whatever engine acts on the lines
+module _ {P : Type 0} (engine : Engine P) (keeps : KeepsLengths engine) where
+  step-within : (st : State P) (b : ℕ) → Within (st .session) → Within (step engine st b .state .session)
+  unfolding finish hold
+  step-within st b w =
+      by-byte engine st b (λ r. Within (r .state .session))
+      (λ e. emptied-within (st .session) w)
+      (λ e. lengthened-within (st .session) b w)
 
-step-within : (st : State) (b : ℕ) → Within (st .session) → Within (step st b .state .session)
-unfolding finish hold
-step-within st b w =
-    by-byte st b (λ r. Within (r .state .session)) (λ e. emptied-within (st .session) w) (λ e. lengthened-within (st .session) b w)
+  step-keeps : (S n : ℕ) (st : State P) (b : ℕ) → engine .lent S n (st .pool) ≡ true → engine .lent S n (step engine st b .state .pool) ≡ true
+  unfolding finish hold act-line
+  step-keeps S n st b lent =
+      by-byte engine st b (λ r. engine .lent S n (r .state .pool) ≡ true)
+      (λ e. keeps S n (st .session) (st .pool) _ lent)
+      (λ e. lent)
 
-pub step-lent : (st : State) (b : ℕ) → LentState st → LentState (step st b .state)
-step-lent st b l =
-    let n : SameNumbers (st .session) (step st b .state .session) = step-numbers st b in
-    record {
-      within = step-within st b (l .within);
-      of-shadow = step-lengths st b .0 ∙ l .of-shadow ∙ sym (n .granules);
-      of-table = step-lengths st b .1 ∙ l .of-table ∙ ap (λ r. row-numbers * r) (sym (n .rows));
-    }
+  pub step-fits : (st : State P) (b : ℕ) → fits-session engine (st .session) (st .pool) ≡ true
+      → fits-session engine (step engine st b .state .session) (step engine st b .state .pool) ≡ true
+  unfolding fits-session
+  step-fits st b fits =
+      let next : State P = step engine st b .state in
+      let same : SameNumbers (st .session) (next .session) = step-numbers engine st b in
+      let a = both fits in
+      join (within-is (next .session) (step-within st b (within-true (st .session) (a .0))))
+      (subst (λ n. engine .lent (next .session .granules) n (next .pool) ≡ true) (sym (same .rows))
+      (subst (λ S. engine .lent S (st .session .rows) (next .pool) ≡ true) (sym (same .granules))
+      (step-keeps (st .session .granules) (st .session .rows) st b (a .1))))
 
-pub run-lent : (st : State) (text : List ℕ) → LentState st → LentState (run st text .state)
-run-lent st text l = run-has LentState step-lent st text l
+  pub run-fits : (st : State P) (text : List ℕ) → fits-session engine (st .session) (st .pool) ≡ true
+      → fits-session engine (run engine st text .state .session) (run engine st text .state .pool) ≡ true
+  run-fits st text fits = run-has engine (λ s. fits-session engine (s .session) (s .pool) ≡ true) step-fits st text fits
+
+-- every line of the watcher's keeps the lengths of what it is lent
+pub watcher-keeps : KeepsLengths watcher
+unfolding lent-lengths
+watcher-keeps S n session pool frame lent =
+    let same = act-lengths session (pool .shadow) (pool .table) frame in
+    let a = both lent in
+    join (eq-eqb _ S (same .0 ∙ eqb-true (length (pool .shadow)) S (a .0)))
+    (eq-eqb _ (row-numbers * n) (same .1 ∙ eqb-true (length (pool .table)) (row-numbers * n) (a .1)))
+
+pub step-lent : (st : State Pool) (b : ℕ) → LentState st → LentState (step watcher st b .state)
+step-lent st b l = lent-true _ _ _ (step-fits watcher watcher-keeps st b (lent-is _ _ _ l))
+
+pub run-lent : (st : State Pool) (text : List ℕ) → LentState st → LentState (run watcher st text .state)
+run-lent st text l = run-has watcher LentState step-lent st text l
 
 -- ---- opening
 
@@ -307,82 +324,70 @@ unfinished-done session e = if-true _ _ e
 
 -- ---- feed
 
-abbrev pub state-of : Session → List ℕ → List ℕ → State
-state-of session shadow table = record { session = session; shadow = shadow; table = table }
+-- what a feed that is refused 24 hands back: the session, no byte taken and none written
+abbrev pub not-fed : {P : Type 0} → Session → P → List ℕ → FedWith P
+not-fed session pool room = record {
+  given = record { session = session; status = 24; taken = 0; wrote = 0 };
+  pool = pool;
+  room = room;
+}
 
--- `run` over the bytes taken
-pub feed-done : (session : Session) (shadow table piece room : List ℕ) → fits-lent session shadow table ≡ true
-    → feed session shadow table piece room
-    ≡ fed-with (run (state-of session shadow table) (take (taken piece (length room)) piece)) (taken piece (length room)) room
-unfolding feed
-feed-done session shadow table piece room e = if-true _ _ e
+module _ {P : Type 0} (engine : Engine P) (session : Session) (pool : P) (piece room : List ℕ) where
+  -- the bytes taken of the piece, run
+  abbrev pub ran-of : Ran P
+  ran-of = run engine (record { session = session; pool = pool }) (take (taken piece (length room)) piece)
 
--- 24 gives the session back, takes no byte and writes none
-pub feed-24 : (session : Session) (shadow table piece room : List ℕ) → fits-lent session shadow table ≡ false
-    → feed session shadow table piece room
-    ≡ record {
-      given = record { session = session; status = 24; taken = 0; wrote = 0 };
-      shadow = shadow;
-      table = table;
-      room = room;
-    }
-unfolding feed status in-numbers
-feed-24 session shadow table piece room e = if-false _ _ e
+  -- `run` over the bytes taken
+  pub feed-done : fits-session engine session pool ≡ true → feed-by engine session pool piece room ≡ fed-with ran-of (taken piece (length room)) room
+  unfolding feed-by
+  feed-done e = if-true _ _ e
 
-module _ (session : Session) (shadow table piece room : List ℕ) where
-  ran : Ran
-  ran = run (state-of session shadow table) (take (taken piece (length room)) piece)
+  -- 24 gives the session back, takes no byte and writes none
+  pub feed-24 : fits-session engine session pool ≡ false → feed-by engine session pool piece room ≡ not-fed session pool room
+  unfolding feed-by status in-numbers
+  feed-24 e = if-false _ _ e
 
   -- the report fits the room
-  report-fits : length (ran .report) ≤ length room
-  unfolding ran
+  report-fits : 0 + length (ran-of .report) ≤ length room
   report-fits =
-      omega (arith, run-report (state-of session shadow table) (take (taken piece (length room)) piece), taken-fits piece (length room))
-
-  report-fits-at : 0 + length (ran .report) ≤ length room
-  report-fits-at = omega (arith, report-fits)
+      omega (
+        arith,
+        run-report engine (record { session = session; pool = pool }) (take (taken piece (length room)) piece),
+        taken-fits piece (length room),
+      )
 
   -- the room keeps its length
-  pub feed-room-length : length (feed session shadow table piece room .room) ≡ length room
-  unfolding ran
+  pub feed-room-length : length (feed-by engine session pool piece room .room) ≡ length room
   feed-room-length =
-      by-test (fits-lent session shadow table)
-      (λ e. ap (λ f. length (f .room)) (feed-done session shadow table piece room e) ∙ length-put room 0 (ran .report) report-fits-at)
-      (λ e. ap (λ f. length (f .room)) (feed-24 session shadow table piece room e))
+      by-test (fits-session engine session pool)
+      (λ e. ap (λ f. length (f .room)) (feed-done e) ∙ length-put room 0 (ran-of .report) report-fits)
+      (λ e. ap (λ f. length (f .room)) (feed-24 e))
 
   -- room beyond the bytes written is unchanged
-  pub feed-room-beyond : (k : ℕ) → feed session shadow table piece room .given .wrote ≤ k
-      → getD (feed session shadow table piece room .room) k 0 ≡ getD room k 0
-  unfolding ran
+  pub feed-room-beyond : (k : ℕ) → feed-by engine session pool piece room .given .wrote ≤ k
+      → getD (feed-by engine session pool piece room .room) k 0 ≡ getD room k 0
   feed-room-beyond k =
-      by-test (fits-lent session shadow table)
+      by-test (fits-session engine session pool)
       (λ e.
-      subst (λ f. f .given .wrote ≤ k → getD (f .room) k 0 ≡ getD room k 0) (sym (feed-done session shadow table piece room e))
-      (λ beyond. put-after room 0 (ran .report) k 0 zero-le (omega arith)))
-      (λ e.
-      subst (λ f. f .given .wrote ≤ k → getD (f .room) k 0 ≡ getD room k 0) (sym (feed-24 session shadow table piece room e))
-      (λ beyond. refl))
+      subst (λ f. f .given .wrote ≤ k → getD (f .room) k 0 ≡ getD room k 0) (sym (feed-done e))
+      (λ beyond. put-after room 0 (ran-of .report) k 0 zero-le (omega arith)))
+      (λ e. subst (λ f. f .given .wrote ≤ k → getD (f .room) k 0 ≡ getD room k 0) (sym (feed-24 e)) (λ beyond. refl))
 
-  -- the session that a feed hands back fits the buffers after it
-  pub feed-lent : fits-lent session shadow table ≡ true
-      → fits-lent (feed session shadow table piece room .given .session) (feed session shadow table piece room .shadow) (feed session shadow table piece room .table) ≡ true
-  feed-lent e =
-      subst (λ f. fits-lent (f .given .session) (f .shadow) (f .table) ≡ true) (sym (feed-done session shadow table piece room e))
-      (lent-is _ _ _ (run-lent (state-of session shadow table) (take (taken piece (length room)) piece) (lent-true session shadow table e)))
+  -- the session that a feed hands back fits what it was lent, after it
+  pub feed-lent : KeepsLengths engine → fits-session engine session pool ≡ true
+      → fits-session engine (feed-by engine session pool piece room .given .session) (feed-by engine session pool piece room .pool) ≡ true
+  feed-lent keeps e =
+      subst (λ f. fits-session engine (f .given .session) (f .pool) ≡ true) (sym (feed-done e))
+      (run-fits engine keeps (record { session = session; pool = pool }) (take (taken piece (length room)) piece) e)
 
 -- an empty piece takes 0
-pub feed-empty : (session : Session) (shadow table room : List ℕ) → fits-lent session shadow table ≡ true
-    → feed session shadow table [] room
-    ≡ record {
-      given = record { session = session; status = 0; taken = 0; wrote = 0 };
-      shadow = shadow;
-      table = table;
-      room = room;
-    }
+pub feed-empty : {P : Type 0} (engine : Engine P) (session : Session) (pool : P) (room : List ℕ) → fits-session engine session pool ≡ true
+    → feed-by engine session pool [] room
+    ≡ record { given = record { session = session; status = 0; taken = 0; wrote = 0 }; pool = pool; room = room }
 unfolding taken run status in-numbers
-feed-empty session shadow table room e =
-    feed-done session shadow table [] room e
-    ∙ ap (λ r. record { given = record { session = session; status = 0; taken = 0; wrote = 0 }; shadow = shadow; table = table; room = r }) (put-nothing room 0)
+feed-empty engine session pool room e =
+    feed-done engine session pool [] room e
+    ∙ ap (λ r. record { given = record { session = session; status = 0; taken = 0; wrote = 0 }; pool = pool; room = r }) (put-nothing room 0)
 
 -- ---- both sides of every limit, computed
 
@@ -445,15 +450,15 @@ unfolding within-limits unused-zero all-equal lowest
 unused-refused = (refl, refl)
 
 -- lent lengths that are just the session's, and one off
-abbrev lent-lengths : ℕ → ℕ → Bool
-lent-lengths shadow table = fits-lent (fresh 8 1 2 0) (replicate shadow 0) (replicate table 0)
+abbrev lent-of : ℕ → ℕ → Bool
+lent-of shadow table = fits-lent (fresh 8 1 2 0) (replicate shadow 0) (replicate table 0)
 
 pub lent-limits :
-    (lent-lengths 8 4 ≡ true)
-    × (lent-lengths 7 4 ≡ false)
-    × (lent-lengths 9 4 ≡ false)
-    × (lent-lengths 8 3 ≡ false)
-    × (lent-lengths 8 5 ≡ false)
-    × (lent-lengths 8 8 ≡ false)
-unfolding fits-lent within-limits unused-zero all-equal lowest
+    (lent-of 8 4 ≡ true)
+    × (lent-of 7 4 ≡ false)
+    × (lent-of 9 4 ≡ false)
+    × (lent-of 8 3 ≡ false)
+    × (lent-of 8 5 ≡ false)
+    × (lent-of 8 8 ≡ false)
+unfolding fits-session lent-lengths within-limits unused-zero all-equal lowest
 lent-limits = (refl, refl, refl, refl, refl, refl)

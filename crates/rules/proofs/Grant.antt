@@ -13,10 +13,9 @@ use borrow.Author.Tests.{eqb-true, eq-eqb}
 use Rattle.rules.specs.declared.Answer.the-variants.{NoRow, NoPlace}
 use Rattle.rules.specs.Limits.{granule, most-granules, redzone-byte, row-numbers, empty, live}
 use Rattle.rules.specs.Table.{rows, column, state, is-empty}
-use Rattle.rules.specs.Grant.{Acted, unchanged, counted, granules, fits, place, last-granule, granted}
-use Rattle.rules.specs.Grant.{empty-row, grant-at, grant}
+use Rattle.rules.specs.Grant.{Acted, unchanged, counted, granules, fits, place, last-granule, granted, empty-row, grant-at, grant, AllFree, Fits, Place}
 use Rattle.rules.proofs.Tests.{by-found, by-order}
-use Rattle.rules.proofs.Lowest.{Lowest, lowest-some, lowest-none, below-all, AllEqual, all-equal-true, all-equal-is}
+use Rattle.rules.proofs.Lowest.{Lowest, lowest-some, lowest-none, below-all, all-equal-true, all-equal-is}
 use Rattle.rules.proofs.Put.{length-put}
 use Rattle.rules.proofs.Table.{length-put-row, column-put-row-other}
 
@@ -48,21 +47,6 @@ unfolding granules
 granules-above s above = omega arith
 
 -- ---- the place
-
--- every shadow byte from i to e - 1 is fa
-abbrev pub AllFree : List ℕ → ℕ → ℕ → Type 0
-AllFree shadow i e = AllEqual shadow redzone-byte i e
-
--- a block of u granules at p keeps R granules of redzone on both sides
-pub record Fits (shadow : List ℕ) (R u p : ℕ) : Type 0 where
-  pub low : R ≤ p
-  pub high : p + u + R ≤ length shadow
-  pub free : AllFree shadow (p - R) (p + u + R)
-
--- p is the lowest place
-pub record Place (shadow : List ℕ) (R u p : ℕ) : Type 0 where
-  pub fits : Fits shadow R u p
-  pub lowest : (q : ℕ) → q < p → Fits shadow R u q → ⊥
 
 fits-window : (R u p : ℕ) → R ≤ p → p - R + (R + u + R) ≡ p + u + R
 fits-window R u p low = omega arith

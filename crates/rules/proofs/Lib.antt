@@ -8,6 +8,7 @@ pub mod Grant
 pub mod Release
 pub mod Frames
 pub mod Feed
+pub mod Watcher
 pub mod Calls
 pub mod Maps
 -- each refusal only where its row of the table says

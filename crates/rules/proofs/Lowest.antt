@@ -13,7 +13,7 @@ use lib.ListN.{length, getD}
 use lib.Dec.{eqb}
 use borrow.Author.Tests.{eqb-true, eq-eqb, not-false}
 use Rattle.rules.specs.declared.Found.the-variants.{One, Nothing}
-use Rattle.rules.specs.Lowest.{lowest, found, answered, all-equal, every-entry, total, lowest-zero, lowest-here, lowest-later, total-zero, total-suc}
+use Rattle.rules.specs.Lowest.{lowest, found, answered, all-equal, every-entry, total, lowest-zero, lowest-here, lowest-later, total-zero, total-suc, AllEqual}
 use Rattle.rules.proofs.Tests.{by-found, by-order, by-test}
 
 -- ---- lowest
@@ -167,10 +167,6 @@ answered-nothing none e = refl
 answered-nothing (some j) e = cc
 
 -- ---- a window
-
--- every number of a list from place i to place e - 1 is v
-abbrev pub AllEqual : List ℕ → ℕ → ℕ → ℕ → Type 0
-AllEqual list v i e = (k : ℕ) → i ≤ k → k < e → getD list k 0 ≡ v
 
 pub all-equal-true : (list : List ℕ) (v i n : ℕ) → all-equal list v i n ≡ true → AllEqual list v i (i + n)
 unfolding all-equal

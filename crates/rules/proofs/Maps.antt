@@ -9,21 +9,8 @@ use Rattle.rules.specs.declared.Region.the-variants.{Nowhere, LowMem, Lo
 use Rattle.rules.specs.Limits.{granule}
 use Rattle.rules.specs.Answers.{status, in-numbers}
 use Rattle.rules.specs.declared.Map.{Map}
-use Rattle.rules.specs.Maps.{map32, map64, shadow-address, region, region-number, map-answer, map-shadow, map-call}
+use Rattle.rules.specs.Maps.{map32, map64, shadow-address, region, region-number, map-answer, map-shadow, map-call, Published}
 use Rattle.rules.proofs.Tests.{if-false, if-true}
-
--- how a published map's regions lie: one above the other, and each shadow where its memory maps
-pub record Published (map : Map) : Type 0 where
-  pub low : map .«low_mem» < map .«low_shadow»
-  pub gap : map .«low_shadow» < map .«shadow_gap»
-  pub shadow : map .«shadow_gap» < map .«high_shadow»
-  pub high : map .«high_shadow» < map .«high_mem»
-  pub low-shadow-first : map .offset ≡ map .«low_mem» + 1
-  pub low-shadow-last : map .«low_mem» / granule + map .offset ≡ map .«low_shadow»
-  pub high-shadow-first : (map .«high_shadow» + 1) / granule + map .offset ≡ map .«shadow_gap» + 1
-  pub high-shadow-last : map .«high_mem» / granule + map .offset ≡ map .«high_shadow»
-  pub gap-first : (map .«low_mem» + 1) / granule + map .offset ≡ map .«low_shadow» + 1
-  pub gap-last : map .«high_shadow» / granule + map .offset ≡ map .«shadow_gap»
 
 pub published32 : Published map32
 published32 = omega arith

@@ -16,21 +16,21 @@ use Rattle.rules.specs.declared.Frame.the-variants.{Grant, Release, Read
 use Rattle.rules.specs.declared.Region.{Region}
 use Rattle.rules.specs.Limits.{between, least-granules, most-granules, least-redzone, most-redzone, kind-grant, kind-release, kind-read, kind-write, live, quarantined}
 use Rattle.rules.specs.Answers.{in-numbers, status}
-use Rattle.rules.specs.Shadow.{kind, first-bad}
+use Rattle.rules.specs.Shadow.{kind, first-bad, FirstBad}
 use Rattle.rules.specs.Grant.{counted, granules, place, empty-row, grant-at, grant}
 use Rattle.rules.specs.Release.{row-at, release-row, release}
 use Rattle.rules.specs.Frames.{with-zero, frame}
-use Rattle.rules.specs.Feed.{of-verdict, access, act}
+use Rattle.rules.specs.Watcher.{of-verdict, access, act, watcher, pool-of}
 use Rattle.rules.specs.Calls.{table-length, open-with, within-limits, fits-lent, grant-call, release-call, access-call, unfinished-call, feed}
 use Rattle.rules.specs.declared.Map.{Map}
-use Rattle.rules.specs.Maps.{region, map-answer, map-call}
+use Rattle.rules.specs.Maps.{region, map-answer, map-call, Published}
 use Rattle.rules.proofs.Tests.{by-found, by-order, by-test}
-use Rattle.rules.proofs.Shadow.{FirstBad, first-bad-some, verdict-none, verdict-some}
+use Rattle.rules.proofs.Shadow.{first-bad-some, verdict-none, verdict-some}
 use Rattle.rules.proofs.Grant.{by-grant}
 use Rattle.rules.proofs.Release.{by-release}
 use Rattle.rules.proofs.Frames.{frame-grant, frame-release, frame-read, frame-write, frame-other, with-zero-is, with-zero-not}
 use Rattle.rules.proofs.Calls.{by-open, grant-as-frame, release-as-frame, access-as-frame, unfinished-done, feed-done}
-use Rattle.rules.proofs.Maps.{Published, in-low-mem, in-low-shadow, in-gap, in-high-shadow, in-high-mem, beyond, map-call-at}
+use Rattle.rules.proofs.Maps.{in-low-mem, in-low-shadow, in-gap, in-high-shadow, in-high-mem, beyond, map-call-at}
 
 -- ---- grants: 05 and 06
 
@@ -230,7 +230,7 @@ pub only-24-feed : (session : Session) (shadow table piece room : List ℕ) → 
 unfolding status in-numbers
 only-24-feed session shadow table piece room e =
     by-test (fits-lent session shadow table)
-    (λ fits. absurd (omega (arith, ap (λ f. f .given .status) (feed-done session shadow table piece room fits))))
+    (λ fits. absurd (omega (arith, ap (λ f. f .given .status) (feed-done watcher session (pool-of shadow table) piece room fits))))
     (λ unfit. unfit)
 
 -- ---- maps: 31 and 32

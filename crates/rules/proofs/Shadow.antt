@@ -13,7 +13,7 @@ use borrow.Author.Tests.{ltb-true, not-true, not-false, lt-ltb, le-ltb, ne-eqb}
 use Rattle.rules.specs.declared.Verdict.{Verdict}
 use Rattle.rules.specs.declared.Verdict.the-variants.{Good, Bad}
 use Rattle.rules.specs.Limits.{granule, most-granules, outside}
-use Rattle.rules.specs.Shadow.{leading, signed, negative, inside, shadow-of, addressable, kind, first-bad, judge}
+use Rattle.rules.specs.Shadow.{leading, signed, negative, inside, shadow-of, addressable, kind, first-bad, judge, AllGood, FirstBad}
 use Rattle.rules.proofs.Tests.{by-found, by-order, by-test, if-false, if-true}
 use Rattle.rules.proofs.Lowest.{Lowest, lowest-some, lowest-none, lowest-is, lowest-no}
 
@@ -131,17 +131,6 @@ unfolding kind inside
 kind-outside shadow b beyond = if-false _ _ (le-ltb b (granule * length shadow) beyond)
 
 -- ---- the range rule
-
--- every byte from a to b - 1 is addressable
-abbrev pub AllGood : List ℕ → ℕ → ℕ → Type 0
-AllGood shadow a b = (j : ℕ) → a ≤ j → j < b → addressable shadow j ≡ true
-
--- b is the first touched byte that is not addressable
-pub record FirstBad (shadow : List ℕ) (a n b : ℕ) : Type 0 where
-  pub from : a ≤ b
-  pub below : b < a + n
-  pub bad : addressable shadow b ≡ false
-  pub first : AllGood shadow a b
 
 pub first-bad-some : (shadow : List ℕ) (a n b : ℕ) → first-bad shadow a n ≡ some b → FirstBad shadow a n b
 unfolding first-bad

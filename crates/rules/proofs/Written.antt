@@ -12,7 +12,8 @@ use Rattle.rules.specs.Limits.{granule, redzone-byte, released-byte}
 use Rattle.rules.specs.Table.{start, size}
 use Rattle.rules.specs.Grant.{counted, granules, granted, grant-at, grant}
 use Rattle.rules.specs.Release.{Pool, paint-row, quarantine-row, release-row, release}
-use Rattle.rules.specs.Feed.{State, act, act-line, finish, hold, step, run}
+use Rattle.rules.specs.Feed.{State, act-line, finish, hold, step, run}
+use Rattle.rules.specs.Watcher.{act, watcher}
 use Rattle.rules.proofs.Tests.{by-order}
 use Rattle.rules.proofs.Put.{Each, put-each, fill-each}
 use Rattle.rules.proofs.Grant.{place-inside, length-granted, granted-whole, granted-last, by-grant}
@@ -62,13 +63,13 @@ act-written session shadow table (Read a n) before = before
 act-written session shadow table (Write a n) before = before
 act-written session shadow table (Refused answer) before = before
 
-step-written : (st : State) (b : ℕ) → Each Written (st .shadow) → Each Written (step st b .state .shadow)
+step-written : (st : State Pool) (b : ℕ) → Each Written (st .pool .shadow) → Each Written (step watcher st b .state .pool .shadow)
 unfolding finish hold act-line
 step-written st b before =
-    by-byte st b (λ r. Each Written (r .state .shadow)) (λ e. act-written (st .session) (st .shadow) (st .table) _ before) (λ e. before)
+    by-byte watcher st b (λ r. Each Written (r .state .pool .shadow)) (λ e. act-written (st .session) (st .pool .shadow) (st .pool .table) _ before) (λ e. before)
 
-pub run-written : (st : State) (text : List ℕ) → Each Written (st .shadow) → Each Written (run st text .state .shadow)
-run-written = run-has (λ st. Each Written (st .shadow)) step-written
+pub run-written : (st : State Pool) (text : List ℕ) → Each Written (st .pool .shadow) → Each Written (run watcher st text .state .pool .shadow)
+run-written = run-has watcher (λ st. Each Written (st .pool .shadow)) step-written
 
 -- an opening's shadow is one
 pub fresh-written : (n : ℕ) → Each Written (replicate n redzone-byte)

@@ -1,5 +1,6 @@
 -- The calls: an opening, the session check behind 24, the direct calls, and a feed into a lent room.
-use Prim.Native.Nat.{ℕ, _-_, _*_, _/_, _%_}
+use Prim.Native.Nat.{ℕ, _-_, _*_, _/_, _%_, _≤_}
+use mathlib.Core.Path.{_≡_}
 use mathlib.Core.Bool.{Bool, true, false, _&&_}
 use mathlib.Core.List.{List}
 use lib.ListN.{length, take, replicate}
@@ -8,14 +9,16 @@ use Rattle.rules.specs.declared.Session.{Session}
 use Rattle.rules.specs.declared.Opened.{Opened}
 use Rattle.rules.specs.declared.Fed.{Fed}
 use Rattle.rules.specs.declared.Answer.{Answer}
+use Rattle.rules.specs.declared.Frame.{Frame}
 use Rattle.rules.specs.declared.Answer.the-variants.{Done, BadShadowLength, BadRedzone, BadTableLength, BadSession}
 use Rattle.rules.specs.Limits.{between, least-granules, most-granules, least-rows, most-rows, row-numbers, least-redzone, most-redzone, frame-digits, too-long, redzone-byte}
 use Rattle.rules.specs.Answers.{status}
-use Rattle.rules.specs.Lowest.{all-equal}
+use Rattle.rules.specs.Lowest.{all-equal, AllEqual}
 use Rattle.rules.specs.Put.{put}
 use Rattle.rules.specs.Grant.{Acted, unchanged, grant}
-use Rattle.rules.specs.Release.{release}
-use Rattle.rules.specs.Feed.{Ran, no-bytes, access, run, taken}
+use Rattle.rules.specs.Release.{Pool, release}
+use Rattle.rules.specs.Feed.{Engine, Ran, no-bytes, run, taken, State}
+use Rattle.rules.specs.Watcher.{access, pool-of, watcher}
 
 -- ---- opening
 
@@ -78,12 +81,37 @@ within-limits session =
     && leb (session .unfinished) too-long
     && unused-zero (session .line) (session .unfinished)
 
+-- and what is lent has the session's lengths
+unfoldable pub fits-session : {P : Type 0} → Engine P → Session → P → Bool
+fits-session engine session pool = within-limits session && engine .lent (session .granules) (session .rows) pool
+
+-- an engine whose lines keep the lengths of what it is lent
+abbrev pub KeepsLengths : {P : Type 0} → Engine P → Type 0
+KeepsLengths {P} engine = (S n : ℕ) (session : Session) (pool : P) (frame : Frame) → engine .lent S n pool ≡ true
+    → engine .lent S n (engine .act session pool frame .pool) ≡ true
+
+-- the watcher's, of a lent shadow and table
+abbrev pub fits-lent : Session → List ℕ → List ℕ → Bool
+fits-lent session shadow table = fits-session watcher session (pool-of shadow table)
+
+-- the same, said of each field
+
+-- every field is within its limits, and unused places are zero
+pub record Within (session : Session) : Type 0 where
+  pub granules : between least-granules most-granules (session .granules) ≡ true
+  pub rows : between least-rows most-rows (session .rows) ≡ true
+  pub redzone : between least-redzone most-redzone (session .redzone) ≡ true
+  pub unfinished : session .unfinished ≤ too-long
+  pub unused : AllEqual (session .line) 0 (session .unfinished) frame-digits
+
 -- and the lent lengths are the session's
-unfoldable pub fits-lent : Session → List ℕ → List ℕ → Bool
-fits-lent session shadow table =
-    within-limits session
-    && eqb (length shadow) (session .granules)
-    && eqb (length table) (row-numbers * session .rows)
+pub record Lent (session : Session) (shadow table : List ℕ) : Type 0 where
+  pub within : Within session
+  pub of-shadow : length shadow ≡ session .granules
+  pub of-table : length table ≡ row-numbers * session .rows
+
+abbrev pub LentState : State Pool → Type 0
+LentState st = Lent (st .session) (st .pool .shadow) (st .pool .table)
 
 -- ---- the direct calls: 24 first, then as their frames answer
 
@@ -111,33 +139,34 @@ unfinished-call session = elim (within-limits session) [ true ↦ Done (session 
 
 -- ---- feed
 
--- what a feed hands back, and the lent buffers after it
-pub record FedWith : Type 0 where
+-- what a feed hands back, and what it was lent, as it leaves it
+pub record FedWith (P : Type 0) : Type 0 where
   pub given : Fed
-  pub shadow : List ℕ
-  pub table : List ℕ
+  pub pool : P
   pub room : List ℕ
 
 -- `n` bytes taken of the text that ran; room beyond the bytes written is unchanged
-abbrev pub fed-with : Ran → ℕ → List ℕ → FedWith
+abbrev pub fed-with : {P : Type 0} → Ran P → ℕ → List ℕ → FedWith P
 fed-with ran n room = record {
   given = record { session = ran .state .session; status = status (Done 0); taken = n; wrote = length (ran .report) };
-  shadow = ran .state .shadow;
-  table = ran .state .table;
+  pool = ran .state .pool;
   room = put room 0 (ran .report);
 }
 
 -- a feed is `run` over the bytes taken; 24 gives the session back, and every other number is 0
-unfoldable pub feed : Session → List ℕ → List ℕ → List ℕ → List ℕ → FedWith
-feed session shadow table piece room =
-    elim (fits-lent session shadow table) [
+unfoldable pub feed-by : {P : Type 0} → Engine P → Session → P → List ℕ → List ℕ → FedWith P
+feed-by engine session pool piece room =
+    elim (fits-session engine session pool) [
       | true ↦
           let n : ℕ = taken piece (length room) in
-          fed-with (run (record { session = session; shadow = shadow; table = table }) (take n piece)) n room
+          fed-with (run engine (record { session = session; pool = pool }) (take n piece)) n room
       | false ↦ record {
         given = record { session = session; status = status BadSession; taken = 0; wrote = 0 };
-        shadow = shadow;
-        table = table;
+        pool = pool;
         room = room;
       }
     ]
+
+-- the watcher's, of a lent shadow and table
+abbrev pub feed : Session → List ℕ → List ℕ → List ℕ → List ℕ → FedWith Pool
+feed session shadow table piece room = feed-by watcher session (pool-of shadow table) piece room

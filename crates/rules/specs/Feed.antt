@@ -1,38 +1,17 @@
--- The unfinished line; one byte, `step`; a text, `run`; and how far a piece is taken.
+-- A text, whatever engine acts on its lines: the unfinished line; one byte, `step`; a text, `run`; and how far a piece is taken.
 use Prim.Native.Nat.{ℕ, suc, _+_, _-_}
 use mathlib.Core.Path.{_≡_, refl}
-use mathlib.Core.Bool.{true, false}
+use mathlib.Core.Bool.{Bool, true, false}
 use mathlib.Core.List.{List, [], _∷_, _++_}
 use lib.ListN.{set, replicate}
 use lib.Dec.{eqb, ltb}
 use Rattle.rules.specs.declared.Session.{Session}
 use Rattle.rules.specs.declared.Answer.{Answer}
-use Rattle.rules.specs.declared.Answer.the-variants.{Done, NotGood}
-use Rattle.rules.specs.declared.Verdict.{Verdict}
-use Rattle.rules.specs.declared.Verdict.the-variants.{Good, Bad}
 use Rattle.rules.specs.declared.Frame.{Frame}
-use Rattle.rules.specs.declared.Frame.the-variants.{Grant, Release, Read, Write, Refused}
 use Rattle.rules.specs.Limits.{frame-digits, too-long, line-feed, answer-bytes}
-use Rattle.rules.specs.Shadow.{judge}
-use Rattle.rules.specs.Grant.{Acted, unchanged, grant}
-use Rattle.rules.specs.Release.{release}
 use Rattle.rules.specs.Frames.{frame-of-line, answer-line}
 
--- what an access is answered: 00 with 0, or 09 with the kind and the first bad byte
-unfoldable pub of-verdict : Verdict → Answer
-of-verdict Good = Done 0
-of-verdict (Bad kind first) = NotGood kind first
-
-unfoldable pub access : List ℕ → ℕ → ℕ → Answer
-access shadow a n = of-verdict (judge shadow a n)
-
--- what a frame does, by the session's R and Q
-unfoldable pub act : Session → List ℕ → List ℕ → Frame → Acted
-act session shadow table (Grant s) = grant (session .redzone) shadow table s
-act session shadow table (Release a) = release (session .redzone) (session .quarantine) shadow table a
-act session shadow table (Read a n) = unchanged (access shadow a n) shadow table
-act session shadow table (Write a n) = unchanged (access shadow a n) shadow table
-act session shadow table (Refused answer) = unchanged answer shadow table
+-- ---- the unfinished line
 
 -- the session with another unfinished line
 abbrev pub with-line : Session → ℕ → List ℕ → Session
@@ -60,57 +39,70 @@ lengthened session b =
       | false ↦ with-line session too-long (session .line)
     ]
 
--- a state: the session with its unfinished line, the shadow, the table
-pub record State : Type 0 where
+-- ---- engines
+
+-- what a line does: its answer, and the pool after it
+pub record Outcome (P : Type 0) : Type 0 where
+  pub answer : Answer
+  pub pool : P
+
+-- an engine acts on frames, over pools of one kind: whether a pool is lent in the lengths of a session of so many granules and rows, and
+-- what a frame does to it
+pub record Engine (P : Type 0) : Type 0 where
+  pub lent : ℕ → ℕ → P → Bool
+  pub act : Session → P → Frame → Outcome P
+
+-- a state: the session with its unfinished line, and the pool
+pub record State (P : Type 0) : Type 0 where
   pub session : Session
-  pub shadow : List ℕ
-  pub table : List ℕ
+  pub pool : P
 
 -- the state after some text, and what the text added to the report
-pub record Ran : Type 0 where
-  pub state : State
+pub record Ran (P : Type 0) : Type 0 where
+  pub state : State P
   pub report : List ℕ
 
+-- ---- one byte
+
 -- what the finished line does
-unfoldable pub act-line : State → Acted
-act-line st = act (st .session) (st .shadow) (st .table) (frame-of-line (st .session .unfinished) (st .session .line))
+unfoldable pub act-line : {P : Type 0} → Engine P → State P → Outcome P
+act-line engine st = engine .act (st .session) (st .pool) (frame-of-line (st .session .unfinished) (st .session .line))
 
 -- a line feed gives one answer, and a line answered, refused or not, empties the unfinished line
-unfoldable pub finish : State → Ran
-finish st =
-    let acted : Acted = act-line st in
-    record {
-      state = record { session = emptied (st .session); shadow = acted .shadow; table = acted .table };
-      report = answer-line (acted .answer);
-    }
+unfoldable pub finish : {P : Type 0} → Engine P → State P → Ran P
+finish {P} engine st =
+    let done : Outcome P = act-line engine st in
+    record { state = record { session = emptied (st .session); pool = done .pool }; report = answer-line (done .answer) }
 
 -- any other byte is not acted on
-unfoldable pub hold : State → ℕ → Ran
-hold st b = record {
-  state = record { session = lengthened (st .session) b; shadow = st .shadow; table = st .table };
-  report = [];
-}
+unfoldable pub hold : {P : Type 0} → State P → ℕ → Ran P
+hold st b = record { state = record { session = lengthened (st .session) b; pool = st .pool }; report = [] }
 
 -- one byte
-unfoldable pub step : State → ℕ → Ran
-step st b = elim (eqb b line-feed) [ true ↦ finish st | false ↦ hold st b ]
+unfoldable pub step : {P : Type 0} → Engine P → State P → ℕ → Ran P
+step engine st b = elim (eqb b line-feed) [ true ↦ finish engine st | false ↦ hold st b ]
+
+-- ---- a text
 
 -- what comes after adds to the report
-abbrev pub after : List ℕ → Ran → Ran
+abbrev pub after : {P : Type 0} → List ℕ → Ran P → Ran P
 after report ran = record { state = ran .state; report = report ++ ran .report }
 
 -- a text, byte by byte
-unfoldable pub run : State → List ℕ → Ran
-run st [] = record { state = st; report = [] }
-run st (b ∷ text) = let first : Ran = step st b in after (first .report) (run (first .state) text)
+unfoldable pub run : {P : Type 0} → Engine P → State P → List ℕ → Ran P
+run engine st [] = record { state = st; report = [] }
+run {P} engine st (b ∷ text) =
+    let first : Ran P = step engine st b in
+    after (first .report) (run engine (first .state) text)
 
-pub run-nil : (st : State) → run st [] ≡ record { state = st; report = [] }
+pub run-nil : {P : Type 0} (engine : Engine P) (st : State P) → run engine st [] ≡ record { state = st; report = [] }
 unfolding run
-run-nil st = refl
+run-nil engine st = refl
 
-pub run-cons : (st : State) (b : ℕ) (text : List ℕ) → run st (b ∷ text) ≡ after (step st b .report) (run (step st b .state) text)
+pub run-cons : {P : Type 0} (engine : Engine P) (st : State P) (b : ℕ) (text : List ℕ)
+    → run engine st (b ∷ text) ≡ after (step engine st b .report) (run engine (step engine st b .state) text)
 unfolding run
-run-cons st b text = refl
+run-cons engine st b text = refl
 
 -- how many bytes of a piece are taken: all, or those before a line feed that fewer than 13 bytes of room are left for
 unfoldable pub taken : List ℕ → ℕ → ℕ

@@ -1,5 +1,5 @@
 -- Grant of s bytes: its place, what is painted, its row.
-use Prim.Native.Nat.{ℕ, zero, suc, _+_, _-_, _*_, _/_, _%_, max}
+use Prim.Native.Nat.{ℕ, zero, suc, _+_, _-_, _*_, _/_, _%_, _≤_, _<_, max}
 use mathlib.Core.Bool.{Bool}
 use mathlib.Core.Option.{Option, none, some}
 use mathlib.Core.List.{List, [], _∷_, _++_}
@@ -7,7 +7,7 @@ use lib.ListN.{length, replicate}
 use Rattle.rules.specs.declared.Answer.{Answer}
 use Rattle.rules.specs.declared.Answer.the-variants.{Done, NoRow, NoPlace}
 use Rattle.rules.specs.Limits.{granule, redzone-byte, live}
-use Rattle.rules.specs.Lowest.{lowest, all-equal}
+use Rattle.rules.specs.Lowest.{lowest, all-equal, AllEqual}
 use Rattle.rules.specs.Put.{put}
 use Rattle.rules.specs.Table.{rows, is-empty, put-row}
 
@@ -39,6 +39,21 @@ fits shadow R u p = all-equal shadow redzone-byte (p - R) (R + u + R)
 -- the lowest granule p with p at least R, p + u + R at most S, that fits
 unfoldable pub place : List ℕ → ℕ → ℕ → Option ℕ
 place shadow R u = lowest (fits shadow R u) (length shadow + 1 - (R + u + R)) R
+
+-- every shadow byte from i to e - 1 is fa
+abbrev pub AllFree : List ℕ → ℕ → ℕ → Type 0
+AllFree shadow i e = AllEqual shadow redzone-byte i e
+
+-- a block of u granules at p keeps R granules of redzone on both sides
+pub record Fits (shadow : List ℕ) (R u p : ℕ) : Type 0 where
+  pub low : R ≤ p
+  pub high : p + u + R ≤ length shadow
+  pub free : AllFree shadow (p - R) (p + u + R)
+
+-- p is the lowest place
+pub record Place (shadow : List ℕ) (R u p : ℕ) : Type 0 where
+  pub fits : Fits shadow R u p
+  pub lowest : (q : ℕ) → q < p → Fits shadow R u q → ⊥
 
 -- a remainder goes into the last granule
 unfoldable pub last-granule : ℕ → List ℕ

@@ -13,8 +13,10 @@ pub mod Grant
 pub mod Release
 -- Frames in, frames out
 pub mod Frames
--- One byte, a text, and how far a piece is taken
+-- One byte, a text, and how far a piece is taken, whatever engine acts on its lines
 pub mod Feed
+-- The watcher's engine: what a frame does to a shadow and a table
+pub mod Watcher
 -- Opening, the check behind 24, the direct calls, feed
 pub mod Calls
 -- The two published address maps

@@ -1,6 +1,6 @@
 -- "The lowest that ..": the lowest number that passes a test, and the sum of numbers. Every search, every walk over a window and
 -- every count of the rules is one of these, and each runs upward, as the loops do. Assumes nothing.
-use Prim.Native.Nat.{ℕ, zero, suc, _+_}
+use Prim.Native.Nat.{ℕ, zero, suc, _+_, _≤_, _<_}
 use mathlib.Core.Path.{_≡_, refl}
 use mathlib.Core.Bool.{Bool, true, false, not}
 use mathlib.Core.Option.{Option, none, some}
@@ -28,6 +28,10 @@ answered (some k) = One k
 -- the n numbers of a list from place i on all equal v: given up at the first that does not
 unfoldable pub all-equal : List ℕ → ℕ → ℕ → ℕ → Bool
 all-equal list v i n = not (found (lowest (λ k. not (eqb (getD list k 0) v)) n i))
+
+-- the same, said of each place from i up to e
+abbrev pub AllEqual : List ℕ → ℕ → ℕ → ℕ → Type 0
+AllEqual list v i e = (k : ℕ) → i ≤ k → k < e → getD list k 0 ≡ v
 
 -- a table's rule, as one test over all of its entries: each is what the rule says of its place
 abbrev pub every-entry : List ℕ → (ℕ → ℕ) → Bool

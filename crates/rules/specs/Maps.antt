@@ -1,5 +1,6 @@
 -- The two published address maps.
-use Prim.Native.Nat.{ℕ, _+_, _/_}
+use Prim.Native.Nat.{ℕ, _+_, _/_, _<_}
+use mathlib.Core.Path.{_≡_}
 use mathlib.Core.Bool.{true, false}
 use lib.Dec.{leb}
 use Rattle.rules.specs.declared.Answer.{Answer}
@@ -35,6 +36,19 @@ map64 = record {
 -- shadow address = address / 8 rounded down, plus the offset
 unfoldable pub shadow-address : Map → ℕ → ℕ
 shadow-address map a = a / granule + map .offset
+
+-- how a published map's regions lie: one above the other, and each shadow where its memory maps
+pub record Published (map : Map) : Type 0 where
+  pub low : map .«low_mem» < map .«low_shadow»
+  pub gap : map .«low_shadow» < map .«shadow_gap»
+  pub shadow : map .«shadow_gap» < map .«high_shadow»
+  pub high : map .«high_shadow» < map .«high_mem»
+  pub low-shadow-first : map .offset ≡ map .«low_mem» + 1
+  pub low-shadow-last : map .«low_mem» / granule + map .offset ≡ map .«low_shadow»
+  pub high-shadow-first : (map .«high_shadow» + 1) / granule + map .offset ≡ map .«shadow_gap» + 1
+  pub high-shadow-last : map .«high_mem» / granule + map .offset ≡ map .«high_shadow»
+  pub gap-first : (map .«low_mem» + 1) / granule + map .offset ≡ map .«low_shadow» + 1
+  pub gap-last : map .«high_shadow» / granule + map .offset ≡ map .«shadow_gap»
 
 -- the region that an address is in; none beyond the last address
 unfoldable pub region : Map → ℕ → Region

@@ -13,10 +13,11 @@ use Rattle.rules.specs.Table.{rows, column, put-row, lessened}
 use Rattle.rules.specs.Shadow.{leading, inside, shadow-of, addressable, kind, first-bad, judge}
 use Rattle.rules.specs.Answers.{in-numbers, status}
 use Rattle.rules.specs.Grant.{counted, granules, fits, place, last-granule, granted, empty-row, grant-at, grant}
-use Rattle.rules.specs.Release.{starts-at, row-at, if-quarantined, in-quarantine, weight, weights, older, oldest, paint-row, evict-row, evict-oldest, settle-in, settle, quarantine-row, release-row, release}
+use Rattle.rules.specs.Release.{Pool, starts-at, row-at, if-quarantined, in-quarantine, weight, weights, older, oldest, paint-row, evict-row, evict-oldest, settle-in, settle, quarantine-row, release-row, release}
 use Rattle.rules.specs.Frames.{hex-digit, number-on, number, with-zero, frame, frame-of-digits, frame-of-line, digit, digits, answer-line}
-use Rattle.rules.specs.Feed.{State, Ran, with-line, of-verdict, access, act, emptied, lengthened, act-line, finish, hold, step, run, taken}
-use Rattle.rules.specs.Calls.{fresh, table-length, OpenedWith, open-with, unused-zero, within-limits, fits-lent, feed}
+use Rattle.rules.specs.Feed.{State, Ran, with-line, emptied, lengthened, act-line, finish, hold, step, run, taken}
+use Rattle.rules.specs.Watcher.{of-verdict, access, act, lent-lengths, watcher, state-of}
+use Rattle.rules.specs.Calls.{fresh, table-length, OpenedWith, open-with, unused-zero, within-limits, fits-session, fits-lent, feed-by, feed}
 
 -- a text's bytes
 unfoldable pub bytes : String → List ℕ
@@ -29,10 +30,10 @@ text [] = []
 text (line ∷ lines) = bytes line ++ line-feed ∷ text lines
 
 -- what an opening of S granules and the rows gives
-unfoldable pub opened : ℕ → ℕ → ℕ → ℕ → State
+unfoldable pub opened : ℕ → ℕ → ℕ → ℕ → State Pool
 opened S R Q n =
     let o : OpenedWith = open-with (replicate S 0) (replicate (row-numbers * n) 0) R Q in
-    record { session = o .given .session; shadow = o .shadow; table = o .table }
+    state-of (o .given .session) (o .shadow) (o .table)
 
 abbrev pub trace : List String
 trace =
@@ -83,21 +84,21 @@ shadow-after =
 abbrev pub table-after : List ℕ
 table-after = 2 ∷ 16 ∷ 1 ∷ 0 ∷ 6 ∷ 1 ∷ 2 ∷ 1 ∷ 9 ∷ 8 ∷ 2 ∷ 2 ∷ 0 ∷ 0 ∷ 0 ∷ 0 ∷ []
 
-abbrev pub state-after : State
-state-after = record { session = fresh 16 4 2 16; shadow = shadow-after; table = table-after }
+abbrev pub state-after : State Pool
+state-after = state-of (fresh 16 4 2 16) shadow-after table-after
 
 -- every definition that a text goes through: to unfold this one is to unfold them all
-unfoldable pub by-the-rules : State → List ℕ → Ran
+unfoldable pub by-the-rules : State Pool → List ℕ → Ran Pool
 unfolding bytes text opened open-with table-length status in-numbers run step hold finish act-line act lengthened emptied access of-verdict
     judge first-bad kind addressable shadow-of inside leading lowest all-equal total put fill rows column put-row lessened
     counted granules fits place last-granule granted empty-row grant-at grant
     starts-at row-at if-quarantined in-quarantine weight weights older oldest paint-row evict-row evict-oldest settle-in settle quarantine-row release-row release
     hex-digit number-on number with-zero frame frame-of-digits frame-of-line digit digits answer-line
-    taken unused-zero within-limits fits-lent feed
-by-the-rules = run
+    taken unused-zero within-limits lent-lengths fits-session feed-by
+by-the-rules = run watcher
 
 -- S = 16, R = 2, Q = 16, 4 rows: the whole report, the shadow, the rows and the session after
-pub night : run (opened 16 2 16 4) (text trace) ≡ record { state = state-after; report = text answers }
+pub night : run watcher (opened 16 2 16 4) (text trace) ≡ record { state = state-after; report = text answers }
 unfolding by-the-rules
 night = refl
 
@@ -105,8 +106,7 @@ night = refl
 pub night-fed : feed (fresh 16 4 2 16) (replicate 16 0xfa) (replicate 16 0) (text trace) (replicate 208 0)
     ≡ record {
       given = record { session = fresh 16 4 2 16; status = 0; taken = 304; wrote = 208 };
-      shadow = shadow-after;
-      table = table-after;
+      pool = record { shadow = shadow-after; table = table-after };
       room = text answers;
     }
 unfolding by-the-rules
@@ -114,12 +114,14 @@ night-fed = refl
 
 -- with one row, a second grant answers 05
 pub one-row :
-    run (opened 16 2 16 1) (text ("010000000d00000000" ∷ "010000000100000000" ∷ []))
+    run watcher (opened 16 2 16 1) (text ("010000000d00000000" ∷ "010000000100000000" ∷ []))
     ≡ record {
       state = record {
         session = fresh 16 1 2 16;
-        shadow = 0xfa ∷ 0xfa ∷ 0x00 ∷ 0x05 ∷ replicate 12 0xfa;
-        table = 2 ∷ 13 ∷ 1 ∷ 0 ∷ [];
+        pool = record {
+          shadow = 0xfa ∷ 0xfa ∷ 0x00 ∷ 0x05 ∷ replicate 12 0xfa;
+          table = 2 ∷ 13 ∷ 1 ∷ 0 ∷ [];
+        };
       };
       report = text ("000000000010" ∷ "050000000000" ∷ []);
     }
@@ -129,13 +131,13 @@ one-row = refl
 -- ---- how readings would get lost, where the night alone does not show it
 
 -- an access near ffffffff does not wrap into the live block at 10
-pub no-wrap : run state-after (text ("03fffffffc00000020" ∷ [])) ≡ record { state = state-after; report = text ("09fffffffffc" ∷ []) }
+pub no-wrap : run watcher state-after (text ("03fffffffc00000020" ∷ [])) ≡ record { state = state-after; report = text ("09fffffffffc" ∷ []) }
 unfolding by-the-rules
 no-wrap = refl
 
 -- the unaligned access of source document 000, bytes 6 to 9 of a block of 8, is reported at its first byte past the block
 pub unaligned :
-    run (opened 16 2 16 4) (text ("010000000800000000" ∷ "040000001600000004" ∷ [])) .report ≡ text ("000000000010" ∷ "09fa00000018" ∷ [])
+    run watcher (opened 16 2 16 4) (text ("010000000800000000" ∷ "040000001600000004" ∷ [])) .report ≡ text ("000000000010" ∷ "09fa00000018" ∷ [])
 unfolding by-the-rules
 unaligned = refl
 
@@ -143,14 +145,16 @@ unaligned = refl
 
 -- sizes 0, 1, 7, 8 and 9, a redzone of two granules between neighbours, and then no row
 pub sizes :
-    run (opened 24 2 0 5)
+    run watcher (opened 24 2 0 5)
     (text
     ("010000000000000000" ∷ "010000000100000000" ∷ "010000000700000000" ∷ "010000000800000000" ∷ "010000000900000000" ∷ "010000000100000000" ∷ []))
     ≡ record {
       state = record {
         session = fresh 24 5 2 0;
-        shadow = 0xfa ∷ 0xfa ∷ 0x01 ∷ 0xfa ∷ 0xfa ∷ 0x01 ∷ 0xfa ∷ 0xfa ∷ 0x07 ∷ 0xfa ∷ 0xfa ∷ 0x00 ∷ 0xfa ∷ 0xfa ∷ 0x00 ∷ 0x01 ∷ replicate 8 0xfa;
-        table = 2 ∷ 1 ∷ 1 ∷ 0 ∷ 5 ∷ 1 ∷ 1 ∷ 0 ∷ 8 ∷ 7 ∷ 1 ∷ 0 ∷ 11 ∷ 8 ∷ 1 ∷ 0 ∷ 14 ∷ 9 ∷ 1 ∷ 0 ∷ [];
+        pool = record {
+          shadow = 0xfa ∷ 0xfa ∷ 0x01 ∷ 0xfa ∷ 0xfa ∷ 0x01 ∷ 0xfa ∷ 0xfa ∷ 0x07 ∷ 0xfa ∷ 0xfa ∷ 0x00 ∷ 0xfa ∷ 0xfa ∷ 0x00 ∷ 0x01 ∷ replicate 8 0xfa;
+          table = 2 ∷ 1 ∷ 1 ∷ 0 ∷ 5 ∷ 1 ∷ 1 ∷ 0 ∷ 8 ∷ 7 ∷ 1 ∷ 0 ∷ 11 ∷ 8 ∷ 1 ∷ 0 ∷ 14 ∷ 9 ∷ 1 ∷ 0 ∷ [];
+        };
       };
       report = text ("000000000010" ∷ "000000000028" ∷ "000000000040" ∷ "000000000058" ∷ "000000000070" ∷ "050000000000" ∷ []);
     }
@@ -159,14 +163,14 @@ sizes = refl
 
 -- of 16 granules the largest block has 12, 96 bytes; one byte more has no place, nor has the largest size there is
 pub largest :
-    run (opened 16 2 0 2) (text ("01ffffffff00000000" ∷ "010000006100000000" ∷ "010000006000000000" ∷ [])) .report
+    run watcher (opened 16 2 0 2) (text ("01ffffffff00000000" ∷ "010000006100000000" ∷ "010000006000000000" ∷ [])) .report
     ≡ text ("060000000000" ∷ "060000000000" ∷ "000000000010" ∷ [])
 unfolding by-the-rules
 largest = refl
 
 -- the arena's first and last byte and the one past it, the last address there is, and nothing touched at either
 pub edges :
-    run state-after
+    run watcher state-after
     (text
     ("030000000000000001" ∷ "030000007f00000001" ∷ "030000008000000001" ∷ "030000008000000000" ∷ "03ffffffff00000001" ∷ "03ffffffffffffffff" ∷ "03ffffffff00000000" ∷ []))
     .report
@@ -177,7 +181,7 @@ edges = refl
 
 -- the live block of 16 bytes at 10: whole, its last byte, one byte past it and one before it
 pub block-edges :
-    run state-after (text ("030000001000000010" ∷ "030000001f00000001" ∷ "030000001f00000002" ∷ "030000000f00000002" ∷ [])) .report
+    run watcher state-after (text ("030000001000000010" ∷ "030000001f00000001" ∷ "030000001f00000002" ∷ "030000000f00000002" ∷ [])) .report
     ≡ text ("000000000000" ∷ "000000000000" ∷ "09fa00000020" ∷ "09fa0000000f" ∷ [])
 unfolding by-the-rules
 block-edges = refl
@@ -186,7 +190,7 @@ block-edges = refl
 
 -- digits of either case; a carriage return, a digit too few, one too many and an empty line are refused 01, then 02 and 03
 pub lines :
-    run state-after
+    run watcher state-after
     (text
     ("03FFFFFFFF00000000" ∷ "03000000100000001\r" ∷ "03000000100000001" ∷ "0300000010000000010" ∷ "" ∷ "050000000000000000" ∷ "020000001000000001" ∷ []))
     ≡ record {
@@ -199,9 +203,9 @@ lines = refl
 
 -- an unfinished line is not acted on, though its 18 digits are there
 pub unfinished-18 :
-    run state-after (bytes "020000001000000000")
+    run watcher state-after (bytes "020000001000000000")
     ≡ record {
-      state = record { session = with-line (fresh 16 4 2 16) 18 (bytes "020000001000000000"); shadow = shadow-after; table = table-after };
+      state = state-of (with-line (fresh 16 4 2 16) 18 (bytes "020000001000000000")) shadow-after table-after;
       report = [];
     }
 unfolding by-the-rules
@@ -209,9 +213,9 @@ unfinished-18 = refl
 
 -- and of 19 bytes or more its first 18 are kept, and 19 stands for the length
 pub unfinished-21 :
-    run state-after (bytes "020000001000000000abc")
+    run watcher state-after (bytes "020000001000000000abc")
     ≡ record {
-      state = record { session = with-line (fresh 16 4 2 16) 19 (bytes "020000001000000000"); shadow = shadow-after; table = table-after };
+      state = state-of (with-line (fresh 16 4 2 16) 19 (bytes "020000001000000000")) shadow-after table-after;
       report = [];
     }
 unfolding by-the-rules
@@ -223,18 +227,22 @@ unfinished-21 = refl
 -- Row 0 is released: its turn is 3, as theirs is, so it leaves first, being the lower row, and then row 1. Every other row's turn is
 -- lessened twice, row 3's too. A shadow byte 7f makes no byte addressable
 pub scribbled :
-    run
+    run watcher
     (record {
       session = fresh 8 4 2 0xffff_ffff;
-      shadow = 0x7f ∷ 0x05 ∷ 0xfd ∷ 0xfd ∷ 0x00 ∷ 0x00 ∷ 0x00 ∷ 0x00 ∷ [];
-      table = 6 ∷ 100 ∷ 1 ∷ 7 ∷ 1 ∷ 0xffff_ffff ∷ 2 ∷ 3 ∷ 2 ∷ 0xffff_ffff ∷ 2 ∷ 3 ∷ 9 ∷ 9 ∷ 3 ∷ 5 ∷ [];
+      pool = record {
+        shadow = 0x7f ∷ 0x05 ∷ 0xfd ∷ 0xfd ∷ 0x00 ∷ 0x00 ∷ 0x00 ∷ 0x00 ∷ [];
+        table = 6 ∷ 100 ∷ 1 ∷ 7 ∷ 1 ∷ 0xffff_ffff ∷ 2 ∷ 3 ∷ 2 ∷ 0xffff_ffff ∷ 2 ∷ 3 ∷ 9 ∷ 9 ∷ 3 ∷ 5 ∷ [];
+      };
     })
     (text ("020000003000000000" ∷ "030000000000000001" ∷ []))
     ≡ record {
       state = record {
         session = fresh 8 4 2 0xffff_ffff;
-        shadow = 0x7f ∷ 0xfa ∷ 0xfa ∷ 0xfa ∷ 0xfa ∷ 0xfa ∷ 0xfa ∷ 0xfa ∷ [];
-        table = 0 ∷ 0 ∷ 0 ∷ 0 ∷ 0 ∷ 0 ∷ 0 ∷ 0 ∷ 2 ∷ 0xffff_ffff ∷ 2 ∷ 1 ∷ 9 ∷ 9 ∷ 3 ∷ 3 ∷ [];
+        pool = record {
+          shadow = 0x7f ∷ 0xfa ∷ 0xfa ∷ 0xfa ∷ 0xfa ∷ 0xfa ∷ 0xfa ∷ 0xfa ∷ [];
+          table = 0 ∷ 0 ∷ 0 ∷ 0 ∷ 0 ∷ 0 ∷ 0 ∷ 0 ∷ 2 ∷ 0xffff_ffff ∷ 2 ∷ 1 ∷ 9 ∷ 9 ∷ 3 ∷ 3 ∷ [];
+        };
       };
       report = text ("000000000002" ∷ "097f00000000" ∷ []);
     }
@@ -243,11 +251,11 @@ scribbled = refl
 
 -- a live row whose start times 8 is 1_0000_0010: no release of 32 bits reaches it
 pub far-row :
-    run
-    (record { session = fresh 8 1 2 16; shadow = replicate 8 0xfa; table = 0x2000_0002 ∷ 8 ∷ 1 ∷ 0 ∷ [] })
+    run watcher
+    (state-of (fresh 8 1 2 16) (replicate 8 0xfa) (0x2000_0002 ∷ 8 ∷ 1 ∷ 0 ∷ []))
     (text ("020000001000000000" ∷ []))
     ≡ record {
-      state = record { session = fresh 8 1 2 16; shadow = replicate 8 0xfa; table = 0x2000_0002 ∷ 8 ∷ 1 ∷ 0 ∷ [] };
+      state = state-of (fresh 8 1 2 16) (replicate 8 0xfa) (0x2000_0002 ∷ 8 ∷ 1 ∷ 0 ∷ []);
       report = text ("070000000000" ∷ []);
     }
 unfolding by-the-rules

@@ -1,5 +1,6 @@
 -- The shadow byte, and the range rule. A shadow is any list of numbers, one a granule.
-use Prim.Native.Nat.{ℕ, _*_, _/_, _%_}
+use Prim.Native.Nat.{ℕ, _+_, _*_, _/_, _%_, _≤_, _<_}
+use mathlib.Core.Path.{_≡_}
 use mathlib.Core.Bool.{Bool, true, false, not, _&&_}
 use mathlib.Core.Option.{Option, none, some}
 use mathlib.Core.List.{List}
@@ -48,3 +49,16 @@ first-bad shadow a n = lowest (λ b. not (addressable shadow b)) n a
 -- the range rule, for reads and writes alike
 unfoldable pub judge : List ℕ → ℕ → ℕ → Verdict
 judge shadow a n = elim (first-bad shadow a n) [ none ↦ Good | some b ↦ Bad (kind shadow b) b ]
+
+-- ---- what the range rule says of bytes
+
+-- every byte from a to b - 1 is addressable
+abbrev pub AllGood : List ℕ → ℕ → ℕ → Type 0
+AllGood shadow a b = (j : ℕ) → a ≤ j → j < b → addressable shadow j ≡ true
+
+-- b is the first touched byte that is not addressable
+pub record FirstBad (shadow : List ℕ) (a n b : ℕ) : Type 0 where
+  pub from : a ≤ b
+  pub below : b < a + n
+  pub bad : addressable shadow b ≡ false
+  pub first : AllGood shadow a b

@@ -7,9 +7,9 @@ use mathlib.Core.List.{List}
 use lib.ListN.{length, getD}
 use Rattle.rules.specs.declared.Verdict.the-variants.{Good, Bad}
 use Rattle.rules.specs.Limits.{granule, outside}
-use Rattle.rules.specs.Shadow.{leading, shadow-of, addressable, kind, judge}
+use Rattle.rules.specs.Shadow.{leading, shadow-of, addressable, kind, judge, AllGood}
 use Rattle.rules.proofs.Lowest.{and-next}
-use Rattle.rules.proofs.Shadow.{AllGood, addressable-is, not-inside, not-leading, kind-inside, kind-outside, judge-good, judge-bad}
+use Rattle.rules.proofs.Shadow.{addressable-is, not-inside, not-leading, kind-inside, kind-outside, judge-good, judge-bad}
 
 -- every byte before b of the n bytes from a on is addressable
 pub record Walked (shadow : List ℕ) (a n b : ℕ) : Type 0 where

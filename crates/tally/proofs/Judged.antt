@@ -14,8 +14,10 @@ use Rattle.rules.specs.declared.Answer.{Answer}
 use Rattle.rules.specs.declared.Answer.the-variants.{Done, BadLine, BadKind, NotZero, NoRow, NoPlace, NotHeld, Released, NotGood, BadShadowLength, BadRedzone, BadTableLength, BadSession, BeyondMap, InGap}
 use Rattle.rules.specs.Limits.{answer-bytes, line-feed}
 use Rattle.rules.specs.Answers.{in-numbers, status}
+use Rattle.rules.specs.Release.{Pool}
 use Rattle.rules.specs.Frames.{digit, digits, answer-line}
 use Rattle.rules.specs.Feed.{State, act-line, finish, hold, step, run, run-nil, run-cons}
+use Rattle.rules.specs.Watcher.{watcher}
 use Rattle.rules.proofs.Tests.{by-test, if-true, if-false}
 use Rattle.rules.proofs.Frames.{length-answer}
 use Rattle.rules.proofs.Feed.{step-line-feed, step-byte, by-byte, by-first, finish-report, run-append, run-report, line-feeds}
@@ -126,12 +128,12 @@ number-read BeyondMap = refl
 number-read InGap = refl
 
 -- a line feed's report is one answer
-tally-feed : (t : Tally) (st : State) → with-report t (step st line-feed .report) ≡ with-answer t (min (status (act-line st .answer)) 10)
+tally-feed : (t : Tally) (st : State Pool) → with-report t (step watcher st line-feed .report) ≡ with-answer t (min (status (act-line watcher st .answer)) 10)
 unfolding finish with-report
 tally-feed t st =
-    let a : Answer = act-line st .answer in
+    let a : Answer = act-line watcher st .answer in
     let one : length (answer-line a) / answer-bytes ≡ 1 = omega (arith, length-answer a) in
-    ap (λ r. with-report t (r .report)) (step-line-feed st)
+    ap (λ r. with-report t (r .report)) (step-line-feed watcher st)
     ∙ ap (with-answers t (answer-line a)) one
     ∙ with-answers-suc t (answer-line a) 0
     ∙ ap₂ with-answer (with-answers-zero t (answer-line a)) (number-read a)
@@ -141,53 +143,53 @@ tally-none : (t : Tally) → with-report t [] ≡ t
 unfolding with-report
 tally-none t = with-answers-zero t []
 
-step-whole : (st : State) (b : ℕ) → (k : ℕ) × (length (step st b .report) ≡ answer-bytes * k)
+step-whole : (st : State Pool) (b : ℕ) → (k : ℕ) × (length (step watcher st b .report) ≡ answer-bytes * k)
 unfolding hold
-step-whole st b = by-byte st b (λ r. (k : ℕ) × (length (r .report) ≡ answer-bytes * k)) (λ feed. (1, finish-report st)) (λ other. (0, refl))
+step-whole st b = by-byte watcher st b (λ r. (k : ℕ) × (length (r .report) ≡ answer-bytes * k)) (λ feed. (1, finish-report watcher st)) (λ other. (0, refl))
 
-module _ (t : Tally) (st : State) where
+module _ (t : Tally) (st : State Pool) where
   tally-cons : (b : ℕ) (text : List ℕ)
-      → with-report t (run st (b ∷ text) .report) ≡ with-report (with-report t (step st b .report)) (run (step st b .state) text .report)
+      → with-report t (run watcher st (b ∷ text) .report) ≡ with-report (with-report t (step watcher st b .report)) (run watcher (step watcher st b .state) text .report)
   tally-cons b text =
       let whole = step-whole st b in
-      ap (λ r. with-report t (r .report)) (run-cons st b text) ∙ sym (with-report-append t (step st b .report) _ (whole .0) (whole .1))
+      ap (λ r. with-report t (r .report)) (run-cons watcher st b text) ∙ sym (with-report-append t (step watcher st b .report) _ (whole .0) (whole .1))
 
   tally-append : (text more : List ℕ)
-      → with-report t (run st (text ++ more) .report) ≡ with-report (with-report t (run st text .report)) (run (run st text .state) more .report)
+      → with-report t (run watcher st (text ++ more) .report) ≡ with-report (with-report t (run watcher st text .report)) (run watcher (run watcher st text .state) more .report)
   tally-append text more =
-      ap (λ r. with-report t (r .report)) (run-append st text more)
-      ∙ sym (with-report-append t (run st text .report) _ (line-feeds text) (run-report st text))
+      ap (λ r. with-report t (r .report)) (run-append watcher st text more)
+      ∙ sym (with-report-append t (run watcher st text .report) _ (line-feeds text) (run-report watcher st text))
 
 -- ---- a text whose every line was done
 
 -- `Passed .each`, by itself
-abbrev EachDone : State → List ℕ → Type 0
-EachDone st text = (before rest : List ℕ) → text ≡ before ++ (line-feed ∷ rest) → status (act-line (run st before .state) .answer) ≡ 0
+abbrev EachDone : State Pool → List ℕ → Type 0
+EachDone st text = (before rest : List ℕ) → text ≡ before ++ (line-feed ∷ rest) → status (act-line watcher (run watcher st before .state) .answer) ≡ 0
 
-each-done : (t : Tally) (st : State) (text : List ℕ) → with-report t (run st text .report) .first ≡ 0 → EachDone st text
+each-done : (t : Tally) (st : State Pool) (text : List ℕ) → with-report t (run watcher st text .report) .first ≡ 0 → EachDone st text
 each-done t st text e before rest cut =
-    let there : State = run st before .state in
-    let whole : with-report t (run st text .report) ≡ with-report (with-report (with-report t (run st before .report)) (step there line-feed .report)) (run (step there line-feed .state) rest .report) =
-    ap (λ l. with-report t (run st l .report)) cut ∙ tally-append t st before (line-feed ∷ rest) ∙ tally-cons _ there line-feed rest in
+    let there : State Pool = run watcher st before .state in
+    let whole : with-report t (run watcher st text .report) ≡ with-report (with-report (with-report t (run watcher st before .report)) (step watcher there line-feed .report)) (run watcher (step watcher there line-feed .state) rest .report) =
+    ap (λ l. with-report t (run watcher st l .report)) cut ∙ tally-append t st before (line-feed ∷ rest) ∙ tally-cons _ there line-feed rest in
     let upto = report-zero _ _ (ap (λ u. u .first) (sym whole) ∙ e) in
-    let read : min (status (act-line there .answer)) 10 ≡ 0 = answer-zero _ _ (ap (λ u. u .first) (sym (tally-feed _ there)) ∙ upto) .1 in
+    let read : min (status (act-line watcher there .answer)) 10 ≡ 0 = answer-zero _ _ (ap (λ u. u .first) (sym (tally-feed _ there)) ∙ upto) .1 in
     omega arith
 
-first-byte : (t : Tally) (st : State) (b : ℕ) (text : List ℕ) → t .first ≡ 0 → EachDone st (b ∷ text) → with-report t (step st b .report) .first ≡ 0
+first-byte : (t : Tally) (st : State Pool) (b : ℕ) (text : List ℕ) → t .first ≡ 0 → EachDone st (b ∷ text) → with-report t (step watcher st b .report) .first ≡ 0
 unfolding hold run
 first-byte t st b text clear =
-    by-first b (λ c. EachDone st (c ∷ text) → with-report t (step st c .report) .first ≡ 0)
+    by-first b (λ c. EachDone st (c ∷ text) → with-report t (step watcher st c .report) .first ≡ 0)
     (λ each.
-    let done : status (act-line st .answer) ≡ 0 = each [] text refl in
+    let done : status (act-line watcher st .answer) ≡ 0 = each [] text refl in
     ap (λ u. u .first) (tally-feed t st) ∙ answer-done t _ clear (omega arith))
-    (λ other each. ap (λ u. u .first) (ap (λ r. with-report t (r .report)) (step-byte st b other) ∙ tally-none t) ∙ clear)
+    (λ other each. ap (λ u. u .first) (ap (λ r. with-report t (r .report)) (step-byte watcher st b other) ∙ tally-none t) ∙ clear)
 
-none-noted : (t : Tally) (st : State) (text : List ℕ) → t .first ≡ 0 → EachDone st text → with-report t (run st text .report) .first ≡ 0
-none-noted t st [] clear each = ap (λ u. u .first) (ap (λ r. with-report t (r .report)) (run-nil st) ∙ tally-none t) ∙ clear
+none-noted : (t : Tally) (st : State Pool) (text : List ℕ) → t .first ≡ 0 → EachDone st text → with-report t (run watcher st text .report) .first ≡ 0
+none-noted t st [] clear each = ap (λ u. u .first) (ap (λ r. with-report t (r .report)) (run-nil watcher st) ∙ tally-none t) ∙ clear
 none-noted t st (b ∷ text) clear each =
     ap (λ u. u .first) (tally-cons t st b text)
-    ∙ none-noted (with-report t (step st b .report)) (step st b .state) text (first-byte t st b text clear each)
-    (λ before rest cut. ap (λ r. status (act-line (r .state) .answer)) (sym (run-cons st b before)) ∙ each (b ∷ before) rest (ap (λ l. b ∷ l) cut))
+    ∙ none-noted (with-report t (step watcher st b .report)) (step watcher st b .state) text (first-byte t st b text clear each)
+    (λ before rest cut. ap (λ r. status (act-line watcher (r .state) .answer)) (sym (run-cons watcher st b before)) ∙ each (b ∷ before) rest (ap (λ l. b ∷ l) cut))
 
 -- ---- the verdict
 
@@ -205,7 +207,7 @@ by-verdict t unfinished P all some =
       | no noted ↦ subst P (sym (if-false _ _ (ne-eqb _ _ noted))) (some (λ clear finished. noted clear))
     ]
 
-by-judged {ℓ} : (st : State) (text : List ℕ) (P : ℕ → Type ℓ) → (Passed st text → P 0) → ((Passed st text → ⊥) → P 1) → P (judged st text)
+by-judged {ℓ} : (st : State Pool) (text : List ℕ) (P : ℕ → Type ℓ) → (Passed st text → P 0) → ((Passed st text → ⊥) → P 1) → P (judged st text)
 unfolding judged
 by-judged st text P all some =
     by-verdict _ _ P
@@ -213,15 +215,15 @@ by-judged st text P all some =
     (λ not. some (λ passed. not (none-noted none st text refl (passed .each)) (passed .finished)))
 
 -- 0 exactly where the text passed
-pub passed : (st : State) (text : List ℕ) → judged st text ≡ 0 → Passed st text
+pub passed : (st : State Pool) (text : List ℕ) → judged st text ≡ 0 → Passed st text
 passed st text = by-judged st text (λ n. n ≡ 0 → Passed st text) (λ all e. all) (λ some e. absurd (omega arith))
 
-pub passes : (st : State) (text : List ℕ) → Passed st text → judged st text ≡ 0
+pub passes : (st : State Pool) (text : List ℕ) → Passed st text → judged st text ≡ 0
 passes st text = by-judged st text (λ n. Passed st text → n ≡ 0) (λ all e. refl) (λ some all. absurd (some all))
 
 -- 1 where it did not, and nothing else
-pub not-passed : (st : State) (text : List ℕ) → judged st text ≡ 1 → Passed st text → ⊥
+pub not-passed : (st : State Pool) (text : List ℕ) → judged st text ≡ 1 → Passed st text → ⊥
 not-passed st text e all = omega (arith, passes st text all)
 
-pub judged-most : (st : State) (text : List ℕ) → (judged st text ≡ 0) ⊎ (judged st text ≡ 1)
+pub judged-most : (st : State Pool) (text : List ℕ) → (judged st text ≡ 0) ⊎ (judged st text ≡ 1)
 judged-most st text = by-judged st text (λ n. (n ≡ 0) ⊎ (n ≡ 1)) (λ all. inl refl) (λ some. inr refl)

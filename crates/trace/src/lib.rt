@@ -7,13 +7,15 @@ use rules::limits::ANSWER_BYTES;
 use rules::limits::LINE_FEED;
 ghost use mathlib.Core.Path.{_≡_};
 ghost use Rattle.rules.specs.Feed.{finish};
-ghost use Rattle.rules.proofs.Calls.{Lent, state-of};
+ghost use Rattle.rules.specs.Watcher.{watcher, state-of};
+ghost use Rattle.rules.specs.Calls.{Lent};
 ghost use Rattle.trace.specs.Feed.{Finishing, ran, fed, fed-of};
 
 // A finished line is acted on and answered in the 13 bytes lent, and its session has an empty line.
 pub fn finish(session: Session, shadow: &mut [u8], table: &mut [u32], part: &mut [u8]) -> Session
     requires { ⌜ Finishing session (now shadow) (now table) (now part) ⌝ }
-    ensures { λ r. ⌜ ran r (now (shadow .exit)) (now (table .exit)) (now (part .exit)) ≡ finish (state-of session (now (shadow .entry)) (now (table .entry))) ⌝ }
+    ensures { λ r. ⌜ ran r (now (shadow .exit)) (now (table .exit)) (now (part .exit))
+        ≡ finish watcher (state-of session (now (shadow .entry)) (now (table .entry))) ⌝ }
 {
     let line = session.line;
     let frame = lines::frame_of_line(session.unfinished, line);
@@ -31,7 +33,8 @@ pub fn feed(
     room: &mut [u8],
 ) -> Fed
     requires { ⌜ Lent session (now shadow) (now table) ⌝ }
-    ensures { λ r. ⌜ fed r (now (shadow .exit)) (now (table .exit)) (now (room .exit)) ≡ fed-of (state-of session (now (shadow .entry)) (now (table .entry))) (now (piece .entry)) (now (room .entry)) ⌝ }
+    ensures { λ r. ⌜ fed r (now (shadow .exit)) (now (table .exit)) (now (room .exit))
+        ≡ fed-of (state-of session (now (shadow .entry)) (now (table .entry))) (now (piece .entry)) (now (room .entry)) ⌝ }
 {
     let status = answers::status_of(Answer::Done { value: 0 });
     let mut current = session;

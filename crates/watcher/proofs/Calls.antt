@@ -41,7 +41,7 @@ module _ {session : Session} {shadow table piece room : List ℕ} {r : Fed} {sha
       → FeedCall session shadow table piece room r shadow-after table-after room-after
   feed-call-is e = record {
     given = ap (λ f. f .given) e;
-    shadow = ap (λ f. f .shadow) e;
-    table = ap (λ f. f .table) e;
+    shadow = ap (λ f. f .pool .shadow) e;
+    table = ap (λ f. f .pool .table) e;
     room = ap (λ f. f .room) e;
   }

@@ -14,11 +14,14 @@ use Rattle.rules.specs.declared.Opened.{Opened}
 use Rattle.rules.specs.declared.Fed.{Fed}
 use Rattle.rules.specs.Limits.{too-long, line-feed, answer-bytes}
 use Rattle.rules.specs.Answers.{status, in-numbers}
+use Rattle.rules.specs.Release.{Pool}
 use Rattle.rules.specs.Feed.{State, act-line, finish, run, run-nil, run-cons, taken, taken-nil, taken-answered, taken-stops}
+use Rattle.rules.specs.Watcher.{state-of, watcher, pool-of}
 use Rattle.rules.specs.Calls.{closed, open-with, fits-lent, within-limits, grant-call, release-call}
 use Rattle.rules.proofs.Tests.{by-test, by-order}
-use Rattle.rules.proofs.Feed.{step-line-feed, finish-refused}
-use Rattle.rules.proofs.Calls.{open-refused, within-true, grant-call-refused, release-call-refused, unfinished-24, unfinished-done, state-of, feed-24, feed-done}
+use Rattle.rules.proofs.Feed.{step-line-feed}
+use Rattle.rules.proofs.Watcher.{finish-refused}
+use Rattle.rules.proofs.Calls.{open-refused, within-true, grant-call-refused, release-call-refused, unfinished-24, unfinished-done, feed-24, feed-done}
 use Rattle.watcher.specs.Calls.{OpenCall, GrantCall, ReleaseCall, UnfinishedCall, FeedCall}
 
 done-is : {m n : ℕ} → Path Answer (Done m) (Done n) → m ≡ n
@@ -73,43 +76,43 @@ module _ {session : Session} {shadow table piece room : List ℕ} {r : Fed} {sha
   unfolding status in-numbers
   feed-refused-keeps f refused =
       by-test (fits-lent session shadow table)
-      (λ fits. absurd (refused (ap (λ q. q .status) (f .given) ∙ ap (λ q. q .given .status) (feed-done session shadow table piece room fits))))
+      (λ fits. absurd (refused (ap (λ q. q .status) (f .given) ∙ ap (λ q. q .given .status) (feed-done watcher session (pool-of shadow table) piece room fits))))
       (λ not.
-      let e = feed-24 session shadow table piece room not in (
+      let e = feed-24 watcher session (pool-of shadow table) piece room not in (
         f .given ∙ ap (λ q. q .given) e,
-        f .shadow ∙ ap (λ q. q .shadow) e,
-        f .table ∙ ap (λ q. q .table) e,
+        f .shadow ∙ ap (λ q. q .pool .shadow) e,
+        f .table ∙ ap (λ q. q .pool .table) e,
         f .room ∙ ap (λ q. q .room) e,
       ))
 
 -- a line feed alone, with room for its answer or without
-line-ran : (st : State) (room : ℕ) → (P : State → Type 0) → P st → P (finish st .state) → P (run st (take (taken (line-feed ∷ []) room) (line-feed ∷ [])) .state)
+line-ran : (st : State Pool) (room : ℕ) → (P : State Pool → Type 0) → P st → P (finish watcher st .state) → P (run watcher st (take (taken (line-feed ∷ []) room) (line-feed ∷ [])) .state)
 line-ran st room P stays acts =
     by-order room answer-bytes
     (λ full.
-    subst (λ n. P (run st (take n (line-feed ∷ [])) .state)) (sym (taken-stops [] room (lt-ltb room answer-bytes full)))
-    (subst (λ r. P (r .state)) (sym (run-nil st)) stays))
+    subst (λ n. P (run watcher st (take n (line-feed ∷ [])) .state)) (sym (taken-stops [] room (lt-ltb room answer-bytes full)))
+    (subst (λ r. P (r .state)) (sym (run-nil watcher st)) stays))
     (λ enough.
     let one : taken (line-feed ∷ []) room ≡ 1 = taken-answered [] room (le-ltb room answer-bytes enough) ∙ ap suc (taken-nil (room - answer-bytes)) in
-    let ran : run st (line-feed ∷ []) .state ≡ finish st .state =
-    ap (λ r. r .state) (run-cons st line-feed [])
-    ∙ ap (λ r. run (r .state) [] .state) (step-line-feed st)
-    ∙ ap (λ r. r .state) (run-nil (finish st .state)) in
-    subst (λ n. P (run st (take n (line-feed ∷ [])) .state)) (sym one) (subst P (sym ran) acts))
+    let ran : run watcher st (line-feed ∷ []) .state ≡ finish watcher st .state =
+    ap (λ r. r .state) (run-cons watcher st line-feed [])
+    ∙ ap (λ r. run watcher (r .state) [] .state) (step-line-feed watcher st)
+    ∙ ap (λ r. r .state) (run-nil watcher (finish watcher st .state)) in
+    subst (λ n. P (run watcher st (take n (line-feed ∷ [])) .state)) (sym one) (subst P (sym ran) acts))
 
 -- 01 to 09: a line feed that ends a refused line changes neither shadow nor table
 module _ {session : Session} {shadow table room : List ℕ} {r : Fed} {shadow-after table-after room-after : List ℕ} where
   pub line-refused-keeps : FeedCall session shadow table (line-feed ∷ []) room r shadow-after table-after room-after
-      → status (act-line (state-of session shadow table) .answer) ≢ 0 → (shadow-after ≡ shadow) × (table-after ≡ table)
+      → status (act-line watcher (state-of session shadow table) .answer) ≢ 0 → (shadow-after ≡ shadow) × (table-after ≡ table)
   line-refused-keeps f refused =
-      let st : State = state-of session shadow table in
-      let Keeps : State → Type 0 = λ s. (s .shadow ≡ shadow) × (s .table ≡ table) in
+      let st : State Pool = state-of session shadow table in
+      let Keeps : State Pool → Type 0 = λ s. (s .pool .shadow ≡ shadow) × (s .pool .table ≡ table) in
       by-test (fits-lent session shadow table)
       (λ fits.
-      let e = feed-done session shadow table (line-feed ∷ []) room fits in
-      let kept : Keeps (run st (take (taken (line-feed ∷ []) (length room)) (line-feed ∷ [])) .state) =
+      let e = feed-done watcher session (pool-of shadow table) (line-feed ∷ []) room fits in
+      let kept : Keeps (run watcher st (take (taken (line-feed ∷ []) (length room)) (line-feed ∷ [])) .state) =
       line-ran st (length room) Keeps (refl, refl) (finish-refused st refused) in
-      (f .shadow ∙ ap (λ q. q .shadow) e ∙ kept .0, f .table ∙ ap (λ q. q .table) e ∙ kept .1))
+      (f .shadow ∙ ap (λ q. q .pool .shadow) e ∙ kept .0, f .table ∙ ap (λ q. q .pool .table) e ∙ kept .1))
       (λ not.
-      let e = feed-24 session shadow table (line-feed ∷ []) room not in
-      (f .shadow ∙ ap (λ q. q .shadow) e, f .table ∙ ap (λ q. q .table) e))
+      let e = feed-24 watcher session (pool-of shadow table) (line-feed ∷ []) room not in
+      (f .shadow ∙ ap (λ q. q .pool .shadow) e, f .table ∙ ap (λ q. q .pool .table) e))

@@ -38,6 +38,6 @@ pub record UnfinishedCall (session : Session) (r : Answer) : Type 0 where
 pub record FeedCall (session : Session) (shadow-before table-before piece room-before : List ℕ) (r : Fed)
     (shadow-after table-after room-after : List ℕ) : Type 0 where
   pub given : r ≡ feed session shadow-before table-before piece room-before .given
-  pub shadow : shadow-after ≡ feed session shadow-before table-before piece room-before .shadow
-  pub table : table-after ≡ feed session shadow-before table-before piece room-before .table
+  pub shadow : shadow-after ≡ feed session shadow-before table-before piece room-before .pool .shadow
+  pub table : table-after ≡ feed session shadow-before table-before piece room-before .pool .table
   pub room : room-after ≡ feed session shadow-before table-before piece room-before .room

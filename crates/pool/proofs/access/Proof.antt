@@ -2,7 +2,7 @@
 use mathlib.Core.Path.{sym, ap, _∙_}
 use denote.Ref.{now}
 use borrow.Author.Needs.{needs}
-use Rattle.rules.specs.Feed.{of-verdict, access}
+use Rattle.rules.specs.Watcher.{of-verdict, access}
 use Rattle.rules.proofs.Shadow.{bad-judge, first-bad-fits}
 use Rattle.pool.proofs.access.Statement.{statement}
 use Rattle.pool.proofs.access.Tie as tie

@@ -6,7 +6,7 @@ use borrow.Author.Needs.{needs}
 use Rattle.rules.specs.declared.Answer.{Answer}
 use Rattle.rules.specs.declared.Frame.{Frame}
 use Rattle.rules.specs.Grant.{Acted, unchanged}
-use Rattle.rules.specs.Feed.{act}
+use Rattle.rules.specs.Watcher.{act}
 use Rattle.rules.proofs.Calls.{lent-granules}
 use Rattle.pool.proofs.act.Statement.{statement}
 use Rattle.pool.proofs.act.Tie as tie

@@ -8,7 +8,8 @@ use lib.Dec.{eqb}
 use denote.Ref.{now}
 use borrow.Author.Needs.{needs}
 use Rattle.rules.specs.Limits.{least-rows, most-rows, row-numbers}
-use Rattle.rules.specs.Calls.{fits-lent}
+use Rattle.rules.specs.Watcher.{lent-lengths}
+use Rattle.rules.specs.Calls.{fits-lent, fits-session}
 use Rattle.rules.proofs.Tests.{denied, passed, between-is}
 use Rattle.rules.proofs.Calls.{within-true}
 use Rattle.session.proofs.fits_lent.Statement.{statement}
@@ -18,11 +19,11 @@ within-limits-requires : tie.Need-within-limits-requires
 within-limits-requires c κs = search needs
 
 returns : tie.Need-returns
-unfolding fits-lent
+unfolding fits-session lent-lengths
 returns c =
     let start = c .before .before .before .before in
     let session = start .args .session in
-    ap (λ within. within && eqb (length (now (start .args .shadow))) (session .granules) && eqb (length (now (start .args .table))) (row-numbers * session .rows))
+    ap (λ within. within && (eqb (length (now (start .args .shadow))) (session .granules) && eqb (length (now (start .args .table))) (row-numbers * session .rows)))
     (sym (denied (c .before .within-limits .ensures) (c .if1 .taken)))
 
 mul-of-table : tie.Need-mul-of-table
@@ -33,12 +34,12 @@ mul-of-table c =
     record { fits = omega (arith, between-is least-rows most-rows (session .rows) (within .rows) .1) }
 
 returns-2 : tie.Need-returns-2
-unfolding fits-lent
+unfolding fits-session lent-lengths
 returns-2 c =
     let test = c .before .before in
     let start = test .before .before .before .before in
     let session = start .args .session in
-    ap (λ within. within && eqb (length (now (start .args .shadow))) (session .granules) && eqb (length (now (start .args .table))) (row-numbers * session .rows))
+    ap (λ within. within && (eqb (length (now (start .args .shadow))) (session .granules) && eqb (length (now (start .args .table))) (row-numbers * session .rows)))
     (sym (passed (test .before .within-limits .ensures) (test .if1 .left)))
 
 pub fits-lent-spec : {M : Type 1} → statement M

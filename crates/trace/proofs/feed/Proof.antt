@@ -4,7 +4,7 @@ use Prim.Native.Nat.{_-_}
 use native.Mathlib.Omega.{arith}
 use lib.ListN.{length}
 use borrow.Author.Needs.{needs}
-use Rattle.rules.proofs.Calls.{state-of}
+use Rattle.rules.specs.Watcher.{state-of}
 use Rattle.trace.specs.Feed.{ran}
 use Rattle.trace.proofs.Feeding.{Feeding, feeding-start, feeding-room, feeding-byte, feeding-part, feeding-line, feeding-end, feeding-full}
 use Rattle.trace.proofs.feed.Statement.{statement}

@@ -5,8 +5,10 @@ use denote.Ref.{now}
 use borrow.Author.Needs.{needs}
 use Rattle.rules.specs.declared.Session.{Session}
 use Rattle.rules.specs.Grant.{Acted}
+use Rattle.rules.specs.Release.{Pool}
 use Rattle.rules.specs.Frames.{answer-line}
-use Rattle.rules.specs.Feed.{Ran, act, emptied, act-line, finish}
+use Rattle.rules.specs.Feed.{Ran, emptied, act-line, finish}
+use Rattle.rules.specs.Watcher.{act}
 use Rattle.trace.specs.Feed.{ran}
 use Rattle.trace.proofs.finish.Statement.{statement}
 use Rattle.trace.proofs.finish.Tie as tie
@@ -33,7 +35,7 @@ same-length-3 : tie.Need-same-length-3
 same-length-3 c = search needs
 
 -- a line that was acted on
-abbrev finished : Session → Acted → Ran
+abbrev finished : Session → Acted → Ran Pool
 finished session acted = ran session (acted .shadow) (acted .table) (answer-line (acted .answer))
 
 returns : tie.Need-returns

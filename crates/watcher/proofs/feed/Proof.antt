@@ -6,6 +6,7 @@ use borrow.Author.Needs.{needs}
 use Rattle.rules.specs.declared.Session.{Session}
 use Rattle.rules.specs.declared.Fed.{Fed}
 use Rattle.rules.specs.Answers.{status, in-numbers}
+use Rattle.rules.specs.Watcher.{watcher, pool-of}
 use Rattle.rules.proofs.Tests.{denied, passed}
 use Rattle.rules.proofs.Calls.{lent-true, feed-24, feed-done}
 use Rattle.trace.specs.Feed.{fed}
@@ -40,7 +41,7 @@ returns c =
     let fails = denied (test .before .fits-lent .ensures) (test .if1 .taken) in
     feed-call-is
     (ap (λ number. fed (nothing (start .args .session) number) shadow table room) (c .status-of .ensures)
-    ∙ sym (feed-24 (start .args .session) shadow table (now (start .args .piece)) room fails))
+    ∙ sym (feed-24 watcher (start .args .session) (pool-of shadow table) (now (start .args .piece)) room fails))
 
 feed-requires : tie.Need-feed-requires
 feed-requires c κs =
@@ -61,7 +62,7 @@ returns-2 c =
     let done = c .before .before .before .before .before .before in
     let test = done .before .before .before .before in
     let passes = passed (test .before .fits-lent .ensures) (test .if1 .left) in
-    feed-call-is (done .feed .ensures ∙ sym (feed-done _ _ _ _ _ passes))
+    feed-call-is (done .feed .ensures ∙ sym (feed-done watcher _ _ _ _ passes))
 
 pub feed-spec : {M : Type 1} → statement M
 feed-spec =
