@@ -1,2 +1,2 @@
-// A lent table of rows, four numbers each: the lowest empty row, and what one pass finds for a release.
+// A lent table of rows: the lowest empty row, and what one pass finds for a release.
 pub mod rows;

@@ -1,16 +1,20 @@
 // Reading and setting rows, and the one pass over them that a release makes for itself.
 use rules::Found;
+use rules::Row;
 use rules::limits::EMPTY;
 use rules::limits::GRANULE;
 use rules::limits::LIVE;
 use rules::limits::QUARANTINED;
 use rules::limits::ROW_NUMBERS;
+use rules::limits::SIZE_COLUMN;
+use rules::limits::START_COLUMN;
+use rules::limits::STATE_COLUMN;
+use rules::limits::TURN_COLUMN;
 ghost use mathlib.Core.Path.{_≡_};
-ghost use Prim.Native.Nat.{_+_, _*_, _<_};
-ghost use lib.ListN.{length, set, replicate};
-ghost use Rattle.rules.specs.Limits.{row-numbers};
+ghost use Prim.Native.Nat.{_+_, _<_};
+ghost use lib.ListN.{length, replicate};
 ghost use Rattle.rules.specs.Lowest.{answered};
-ghost use Rattle.rules.specs.Table.{rows, column, put-row};
+ghost use Rattle.rules.specs.Table.{rows, column, set-number, put-row};
 ghost use Rattle.rules.specs.Grant.{empty-row};
 ghost use Rattle.rules.specs.Release.{weight, oldest};
 ghost use Rattle.blocks.specs.Survey.{InRow, Lent, SoFar, OldestSoFar, first-of, surveyed, survey};
@@ -25,15 +29,6 @@ pub struct Seen {
     pub oldest: Found,
 }
 
-// The numbers of a row.
-pub const START: usize = 0;
-
-pub const SIZE: usize = 1;
-
-pub const STATE: usize = 2;
-
-pub const TURN: usize = 3;
-
 pub fn number(table: &[u32], row: usize, k: usize) -> u32
     requires { ⌜ InRow (now table) row k ⌝ }
     ensures { λ r. ⌜ r ≡ column k (now (table .entry)) row ⌝ }
@@ -47,7 +42,7 @@ pub fn empty_row(table: &[u32]) -> Found
     let rows = table.len() / ROW_NUMBERS;
     let mut row = 0;
     while row < rows {
-        if number(table, row, STATE) == EMPTY {
+        if number(table, row, STATE_COLUMN) == EMPTY {
             return Found::One(row);
         }
         row += 1;
@@ -57,22 +52,24 @@ pub fn empty_row(table: &[u32]) -> Found
 
 pub fn set_number(table: &mut [u32], row: usize, k: usize, value: u32)
     requires { ⌜ InRow (now table) row k ⌝ }
-    ensures { λ _. ⌜ now (table .exit) ≡ set (now (table .entry)) (row-numbers * row + k) value ⌝ }
+    ensures { λ _. ⌜ now (table .exit) ≡ set-number k (now (table .entry)) row value ⌝ }
 {
     table[ROW_NUMBERS * row + k] = value;
 }
 
-pub fn put_row(table: &mut [u32], row: usize, start: u32, size: u32, state: u32, turn: u32)
+pub fn put_row(table: &mut [u32], row: usize, new: Row)
     requires { ⌜ row < rows (now table) ⌝ }
-    ensures { λ _. ⌜ now (table .exit) ≡ put-row (now (table .entry)) row start size state turn ⌝ }
+    ensures { λ _. ⌜ now (table .exit) ≡ put-row (now (table .entry)) row new ⌝ }
 {
-    set_number(table, row, START, start);
-    set_number(table, row, SIZE, size);
-    set_number(table, row, STATE, state);
-    set_number(table, row, TURN, turn);
+    let numbers = rules::numbers(new);
+    let mut k = 0;
+    while k < ROW_NUMBERS {
+        set_number(table, row, k, numbers[k]);
+        k += 1;
+    }
 }
 
-// Every row is empty: four zeros.
+// Every row is empty: zeros throughout.
 pub fn clear(table: &mut [u32])
     ensures { λ _. ⌜ now (table .exit) ≡ replicate (length (now (table .entry))) 0 ⌝ }
 {
@@ -110,13 +107,13 @@ pub fn oldest_with(table: &[u32], before: Found, row: usize) -> Found
     requires { ⌜ OldestSoFar (now table) before row ⌝ }
     ensures { λ r. ⌜ r ≡ answered (oldest (now (table .entry)) (row + 1)) ⌝ }
 {
-    if number(table, row, STATE) != QUARANTINED {
+    if number(table, row, STATE_COLUMN) != QUARANTINED {
         return before;
     }
     let Found::One(other) = before else {
         return Found::One(row);
     };
-    if number(table, row, TURN) < number(table, other, TURN) {
+    if number(table, row, TURN_COLUMN) < number(table, other, TURN_COLUMN) {
         return Found::One(row);
     }
     Found::One(other)
@@ -127,9 +124,9 @@ fn with_row(table: &[u32], redzone: usize, address: u32, row: usize, seen: Seen)
     requires { ⌜ SoFar redzone (now table) address row seen ⌝ }
     ensures { λ r. ⌜ r ≡ surveyed redzone (now (table .entry)) address (row + 1) ⌝ }
 {
-    let at = GRANULE as u64 * number(table, row, START) as u64;
+    let at = GRANULE as u64 * number(table, row, START_COLUMN) as u64;
     let here = at == address as u64;
-    let state = number(table, row, STATE);
+    let state = number(table, row, STATE_COLUMN);
     let live = seen.live;
     let oldest = seen.oldest;
     if state == LIVE {
@@ -143,7 +140,7 @@ fn with_row(table: &[u32], redzone: usize, address: u32, row: usize, seen: Seen)
     }
     if state == QUARANTINED {
         let count = seen.count + 1;
-        let weight = seen.weight + weight_of(redzone, number(table, row, SIZE));
+        let weight = seen.weight + weight_of(redzone, number(table, row, SIZE_COLUMN));
         return Seen {
             live,
             again: seen.again | here,

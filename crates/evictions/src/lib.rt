@@ -1,12 +1,11 @@
 // Evictions: every turn lessened, the oldest row of the quarantine evicted, and evictions until the rest weighs no more than Q.
 use blocks::rows;
-use blocks::rows::SIZE;
-use blocks::rows::START;
-use blocks::rows::TURN;
 use rules::Found;
-use rules::limits::EMPTY;
 use rules::limits::REDZONE_BYTE;
 use rules::limits::ROW_NUMBERS;
+use rules::limits::SIZE_COLUMN;
+use rules::limits::START_COLUMN;
+use rules::limits::TURN_COLUMN;
 ghost use mathlib.Core.Path.{_≡_};
 ghost use Prim.Native.Nat.{_-_, _<_};
 ghost use Rattle.rules.specs.Table.{rows};
@@ -33,8 +32,8 @@ pub fn lessen(table: &mut [u32]) -> Found
     let mut oldest = Found::Nothing;
     let mut row = 0;
     while row < rows {
-        let turn = lessened_turn(rows::number(table, row, TURN));
-        rows::set_number(table, row, TURN, turn);
+        let turn = lessened_turn(rows::number(table, row, TURN_COLUMN));
+        rows::set_number(table, row, TURN_COLUMN, turn);
         oldest = rows::oldest_with(table, oldest, row);
         row += 1;
     }
@@ -46,10 +45,10 @@ pub fn evict(shadow: &mut [u8], table: &mut [u32], row: usize) -> Found
     requires { ⌜ row < rows (now table) ⌝ }
     ensures { λ r. ⌜ Evicted (pool (now (shadow .entry)) (now (table .entry))) row (pool (now (shadow .exit)) (now (table .exit))) r ⌝ }
 {
-    let start = rows::number(table, row, START);
-    let size = rows::number(table, row, SIZE);
+    let start = rows::number(table, row, START_COLUMN);
+    let size = rows::number(table, row, SIZE_COLUMN);
     paint::row(shadow, start, size, REDZONE_BYTE);
-    rows::put_row(table, row, 0, 0, EMPTY, 0);
+    rows::put_row(table, row, rules::zero_row());
     lessen(table)
 }
 
@@ -72,7 +71,7 @@ pub fn settle(
         let Found::One(row) = oldest else {
             return evicted;
         };
-        weight -= rows::weight_of(redzone, rows::number(table, row, SIZE));
+        weight -= rows::weight_of(redzone, rows::number(table, row, SIZE_COLUMN));
         oldest = evict(shadow, table, row);
         evicted += 1;
     }

@@ -8,6 +8,8 @@ use cases::tables::table_of;
 use cases::text;
 use rules::Answer;
 use rules::Found;
+use rules::limits::MOST_ROWS;
+use rules::limits::ROW_NUMBERS;
 
 pub fn lessen(line: &[u8]) {
     let mut table = table_of(line, 1);
@@ -16,7 +18,7 @@ pub fn lessen(line: &[u8]) {
 }
 
 fn evict_within(shadow: &mut [u8], table: &mut [u32], row: usize) -> Found {
-    if row < table.len() / 4 {
+    if row < table.len() / ROW_NUMBERS {
         return evictions::evict(shadow, table, row);
     }
     show::not_asked();
@@ -33,7 +35,7 @@ pub fn evict(line: &[u8]) {
 }
 
 fn release_within(shadow: &mut [u8], table: &mut [u32], limit: u32, address: u32) -> Answer {
-    if table.len() <= 4096 {
+    if table.len() <= ROW_NUMBERS * MOST_ROWS {
         return quarantine::release(shadow, table, 2, limit, address);
     }
     show::not_asked();

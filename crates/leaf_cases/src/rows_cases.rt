@@ -6,19 +6,27 @@ use cases::tables::same_rows;
 use cases::tables::table_of;
 use cases::text;
 use rules::Found;
+use rules::Row;
+use rules::limits::MOST_REDZONE;
+use rules::limits::MOST_ROWS;
+use rules::limits::QUARANTINED;
+use rules::limits::ROW_NUMBERS;
 
 pub fn empty_row(line: &[u8]) {
     let table = table_of(line, 2);
     let lent = text::number(line, 1) as usize;
     if lent <= 4 {
-        return show::found(rows::empty_row(&table[0..4 * lent]), text::number(line, 6));
+        return show::found(
+            rows::empty_row(&table[0..ROW_NUMBERS * lent]),
+            text::number(line, 6),
+        );
     }
     show::not_asked();
 }
 
 fn number_within(table: &[u32], row: usize, k: usize) -> u32 {
-    if row < table.len() / 4 {
-        if k < 4 {
+    if row < table.len() / ROW_NUMBERS {
+        if k < ROW_NUMBERS {
             return rows::number(table, row, k);
         }
     }
@@ -34,8 +42,17 @@ pub fn number(line: &[u8]) {
 }
 
 fn put_within(table: &mut [u32], row: usize) {
-    if row < table.len() / 4 {
-        return rows::put_row(table, row, 0xffff_ffff, 0xffff_fffe, 2, 9);
+    if row < table.len() / ROW_NUMBERS {
+        return rows::put_row(
+            table,
+            row,
+            Row {
+                start: 0xffff_ffff,
+                size: 0xffff_fffe,
+                state: QUARANTINED,
+                turn: 9,
+            },
+        );
     }
     show::not_asked();
 }
@@ -47,8 +64,8 @@ pub fn put_row(line: &[u8]) {
 }
 
 fn survey_within(table: &[u32], redzone: usize, address: u32) -> Seen {
-    if table.len() <= 4096 {
-        if redzone <= 256 {
+    if table.len() <= ROW_NUMBERS * MOST_ROWS {
+        if redzone <= MOST_REDZONE {
             return rows::survey(table, redzone, address);
         }
     }
@@ -82,7 +99,7 @@ pub fn survey(line: &[u8]) {
     let table = table_of(line, 2);
     let lent = text::number(line, 1) as usize;
     if lent <= 4 {
-        return surveyed(&table[0..4 * lent], line);
+        return surveyed(&table[0..ROW_NUMBERS * lent], line);
     }
     show::not_asked();
 }

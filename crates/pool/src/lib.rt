@@ -4,6 +4,7 @@ use blocks::rows;
 use rules::Answer;
 use rules::Found;
 use rules::Frame;
+use rules::Row;
 use rules::Session;
 use rules::Verdict;
 use rules::limits::GRANULE;
@@ -13,7 +14,7 @@ ghost use Prim.Native.Nat.{_≤_};
 ghost use mathlib.Core.Path.{_≡_};
 ghost use lib.ListN.{length};
 ghost use Rattle.rules.specs.Limits.{most-granules};
-ghost use Rattle.rules.specs.Grant.{acted, counted, grant};
+ghost use Rattle.rules.specs.Grant.{acted, counted, granted-row, grant};
 ghost use Rattle.rules.specs.Release.{release};
 ghost use Rattle.rules.specs.Watcher.{access, act};
 ghost use Rattle.rules.specs.Calls.{Lent};
@@ -23,6 +24,18 @@ fn counted(size: u32) -> u32
     ensures { λ r. ⌜ r ≡ counted size ⌝ }
 {
     if size == 0 { 1 } else { size }
+}
+
+// The row of a block of so many bytes, granted at a granule.
+fn granted_row(place: u32, size: u32) -> Row
+    ensures { λ r. ⌜ r ≡ granted-row place size ⌝ }
+{
+    Row {
+        start: place,
+        size,
+        state: LIVE,
+        turn: 0,
+    }
 }
 
 // 05 where no row is empty, then 06 where no start exists; else the lowest place, painted, in the lowest empty row.
@@ -40,7 +53,7 @@ pub fn grant(session: Session, shadow: &mut [u8], table: &mut [u32], size: u32) 
         return Answer::NoPlace;
     };
     paint::grant(shadow, place, asked);
-    rows::put_row(table, row, place as u32, asked, LIVE, 0);
+    rows::put_row(table, row, granted_row(place as u32, asked));
     Answer::Done {
         value: (GRANULE * place) as u32,
     }

@@ -10,7 +10,7 @@ use borrow.Author.Tests.{eqb-true}
 use Rattle.rules.specs.declared.Session.{Session}
 use Rattle.rules.specs.declared.Frame.{Frame}
 use Rattle.rules.specs.declared.Frame.the-variants.{Grant, Release, Read, Write, Refused}
-use Rattle.rules.specs.Limits.{granule, row-numbers, least-redzone, most-redzone, empty, live, quarantined, redzone-byte}
+use Rattle.rules.specs.Limits.{granule, state-column, row-numbers, least-redzone, most-redzone, empty, live, quarantined, redzone-byte}
 use Rattle.rules.specs.Table.{rows, state, start, is-empty}
 use Rattle.rules.specs.Answers.{in-numbers, status}
 use Rattle.rules.specs.Grant.{Acted, counted, granules, grant-at, grant}
@@ -202,7 +202,7 @@ HoldsOf r = Holds (length (r .shadow)) (length (r .table) / row-numbers) (r .red
 stands-opening : (S R Q n : ℕ) → 0 < R → Stands S R Q (replicate S redzone-byte) (replicate n 0) nothing-yet
 unfolding latest
 stands-opening S R Q n above =
-    let state-zero : (i : ℕ) → state (replicate n 0) i ≡ empty = zero-column n 2 in
+    let state-zero : (i : ℕ) → state (replicate n 0) i ≡ empty = zero-column n state-column in
     let none-live : (i : ℕ) → i < rows (replicate n 0) → state (replicate n 0) i ≢ live = λ i below e. absurd (omega (arith, state-zero i)) in
     let none-quarantined : (i : ℕ) → i < rows (replicate n 0) → state (replicate n 0) i ≢ quarantined = λ i below e. absurd (omega (arith, state-zero i)) in
     let queue : Queue R (replicate n 0) [] = queue-none R (replicate n 0) none-quarantined in

@@ -6,16 +6,19 @@ use mathlib.Core.Path.{_≡_, refl, sym, ap, ap₂, subst, _∙_}
 use mathlib.Core.Logic.{_≢_, _⊎_, inl, inr, ⊎-elim}
 use mathlib.Core.List.{List, [], _∷_}
 use lib.ListN.{length, getD, replicate, length-replicate, getD-replicate}
-use Rattle.rules.specs.Limits.{granule, row-numbers, redzone-byte, released-byte, empty, live, quarantined}
+use Rattle.rules.specs.Limits.{granule, start-column, size-column, state-column, turn-column, row-numbers}
+use Rattle.rules.specs.Limits.{redzone-byte, released-byte, empty, live, quarantined}
 use Rattle.rules.specs.Put.{put}
-use Rattle.rules.specs.Table.{rows, column, start, size, state, put-row}
-use Rattle.rules.specs.Grant.{granules, granted, Fits}
+use Rattle.rules.specs.Table.{rows, column, start, size, state, numbers, put-row}
+use Rattle.rules.specs.Grant.{granules, granted, granted-row, Fits}
 use Rattle.rules.specs.Release.{Pool, in-quarantine, evict-row, quarantine-row}
 use Rattle.rules.proofs.Tests.{by-order}
 use Rattle.rules.proofs.Put.{length-put, put-in, put-before, put-after}
 use Rattle.rules.proofs.Table.{rows-same, length-put-row, column-put-row, column-put-row-other}
 use Rattle.rules.proofs.Grant.{granules-above, granules-least, length-granted, granted-whole, granted-last}
-use Rattle.rules.proofs.Release.{evict-row-rows, evict-row-empty, evict-row-other, evict-row-turn, evict-row-own-turn, evict-row-shadow, paint-row-length, paint-row-in, paint-row-before, paint-row-after, quarantine-row-lengths, quarantine-row-own, quarantine-row-other}
+use Rattle.rules.proofs.Release.{evict-row-rows, evict-row-empty, evict-row-other, evict-row-turn, evict-row-shadow}
+use Rattle.rules.proofs.Release.{paint-row-length, paint-row-in, paint-row-before, paint-row-after}
+use Rattle.rules.proofs.Release.{quarantine-row-lengths, quarantine-row-state, quarantine-row-own, quarantine-row-other}
 use Rattle.promises.specs.Rows.{Held}
 use Rattle.promises.proofs.Laid.{ends, Off, Laid, laid-repainted}
 
@@ -34,14 +37,14 @@ zero-column n k i = zeros-at n (row-numbers * i + k)
 -- a table of zeros and a shadow of fa are laid
 pub laid-opening : (S R n : ℕ) → Laid S R (replicate S redzone-byte) (replicate n 0)
 laid-opening S R n =
-    let is-empty : (i : ℕ) → state (replicate n 0) i ≡ empty = zero-column n 2 in
+    let is-empty : (i : ℕ) → state (replicate n 0) i ≡ empty = zero-column n state-column in
     let nothing : (i : ℕ) → Held (replicate n 0) i → ⊥ =
     λ i h. ⊎-elim {C = ⊥} (λ is. omega (arith, is-empty i)) (λ is. omega (arith, is-empty i)) (h .has) in
     record {
       of-shadow = length-replicate S redzone-byte;
       states = λ i below. inl (is-empty i);
-      zeros = λ i below is. (zero-column n 0 i, zero-column n 1 i, zero-column n 3 i);
-      live-turn = λ i below is. zero-column n 3 i;
+      zeros = λ i below is k in-row. zero-column n k i;
+      live-turn = λ i below is. zero-column n turn-column i;
       sized = λ i h. absurd (nothing i h);
       low = λ i h. absurd (nothing i h);
       high = λ i h. absurd (nothing i h);
@@ -103,21 +106,22 @@ module _ {S R : ℕ} {shadow table : List ℕ} (laid : Laid S R shadow table) wh
     not-held : Held table i → ⊥
     not-held h = ⊎-elim {C = ⊥} (λ is. omega arith) (λ is. omega arith) (h .has)
 
-    own : (k : ℕ) → k < row-numbers → column k (put-row table i p s live 0) i ≡ getD (p ∷ s ∷ live ∷ 0 ∷ []) k 0
-    own k in-row = column-put-row table i p s live 0 below k in-row
+    own : (k : ℕ) → k < row-numbers → column k (put-row table i (granted-row p s)) i ≡ getD (numbers (granted-row p s)) k 0
+    own k in-row = column-put-row table i (granted-row p s) below k in-row
 
     inside : p + length (granted s) ≤ length shadow
     inside = omega (arith, fits .high, length-granted s)
 
-    pub laid-grant : Laid S R (put shadow p (granted s)) (put-row table i p s live 0)
+    pub laid-grant : Laid S R (put shadow p (granted s)) (put-row table i (granted-row p s))
     laid-grant =
         laid-repainted {lo = p} {hi = p + granules s} laid
         (record {
           below = below;
-          same-rows = rows-same (put-row table i p s live 0) table (length-put-row table i p s live 0 below);
+          same-rows = rows-same (put-row table i (granted-row p s)) table (length-put-row table i (granted-row p s) below);
           same-length = length-put shadow p (granted s) inside;
-          other = λ k j in-row other. column-put-row-other table i p s live 0 below k j (omega arith) other;
-          other-turn = λ j in-rows other was. column-put-row-other table i p s live 0 below 3 j (omega arith) other ∙ was;
+          other = λ k j in-row no-turn other. column-put-row-other table i (granted-row p s) below k j in-row other;
+          other-turn =
+              λ j in-rows other was. column-put-row-other table i (granted-row p s) below turn-column j (omega arith) other ∙ was;
           beside =
               λ g beside.
               ⊎-elim
@@ -126,24 +130,24 @@ module _ {S R : ℕ} {shadow table : List ℕ} (laid : Laid S R shadow table) wh
               beside;
           clear = λ j other h. fits-clear (granules s) p (granules-above s sized) fits j h;
           before = λ h. absurd (not-held h);
-          states = inr (inl (own 2 (omega arith)));
-          zeros = λ is. absurd (omega (arith, own 2 (omega arith)));
-          live-turn = λ is. own 3 (omega arith);
+          states = inr (inl (own state-column (omega arith)));
+          zeros = λ is. absurd (omega (arith, own state-column (omega arith)));
+          live-turn = λ is. own turn-column (omega arith);
           after = λ h. (
-            own 0 (omega arith),
-            ap₂ (λ a b. a + granules b) (own 0 (omega arith)) (own 1 (omega arith)),
-            omega (arith, own 1 (omega arith)),
+            own start-column (omega arith),
+            ap₂ (λ a b. a + granules b) (own start-column (omega arith)) (own size-column (omega arith)),
+            omega (arith, own size-column (omega arith)),
             fits .low,
             omega (arith, fits .high, laid .of-shadow),
           );
           of-live =
               λ is k in-block.
-              let in-block′ : k < granules s = subst (λ b. k < granules b) (own 1 (omega arith)) in-block in
-              ap (λ a. getD (put shadow p (granted s)) (a + k) 0) (own 0 (omega arith))
+              let in-block′ : k < granules s = subst (λ b. k < granules b) (own size-column (omega arith)) in-block in
+              ap (λ a. getD (put shadow p (granted s)) (a + k) 0) (own start-column (omega arith))
               ∙ put-in shadow p (granted s) k 0 (omega (arith, inside)) (omega (arith, length-granted s))
-              ∙ ap (λ b. getD (granted b) k 0) (sym (own 1 (omega arith)));
-          of-quarantined = λ is. absurd (omega (arith, own 2 (omega arith)));
-          of-none = λ is. absurd (omega (arith, own 2 (omega arith)));
+              ∙ ap (λ b. getD (granted b) k 0) (sym (own size-column (omega arith)));
+          of-quarantined = λ is. absurd (omega (arith, own state-column (omega arith)));
+          of-none = λ is. absurd (omega (arith, own state-column (omega arith)));
         })
 
 -- ---- a row's granules repainted
@@ -159,47 +163,51 @@ module _ {S R : ℕ} (pool : Pool) (laid : Laid S R (pool .shadow) (pool .table)
   pub laid-quarantine : Laid S R (quarantine-row pool i .shadow) (quarantine-row pool i .table)
   unfolding quarantine-row
   laid-quarantine =
-      let own : (k : ℕ) → k < row-numbers → column k (quarantine-row pool i .table) i ≡ getD (start (pool .table) i ∷ size (pool .table) i ∷ quarantined ∷ (in-quarantine (pool .table) + 1) ∷ []) k 0 =
-      quarantine-row-own pool i (h .below) in
+      let after : List ℕ = quarantine-row pool i .table in
+      let now-is : state after i ≡ quarantined = quarantine-row-state pool i (h .below) in
+      let same-start : start after i ≡ start (pool .table) i =
+      quarantine-row-own pool i (h .below) start-column (omega arith) (omega arith) (omega arith) in
+      let same-size : size after i ≡ size (pool .table) i =
+      quarantine-row-own pool i (h .below) size-column (omega arith) (omega arith) (omega arith) in
       laid-repainted {lo = start (pool .table) i} {hi = ends (pool .table) i} laid
       (record {
         below = h .below;
-        same-rows = rows-same (quarantine-row pool i .table) (pool .table) (quarantine-row-lengths pool i (h .below) .1);
+        same-rows = rows-same after (pool .table) (quarantine-row-lengths pool i (h .below) .1);
         same-length = quarantine-row-lengths pool i (h .below) .0;
-        other = λ k j in-row other. quarantine-row-other pool i (h .below) k j (omega arith) other;
-        other-turn = λ j in-rows other was. quarantine-row-other pool i (h .below) 3 j (omega arith) other ∙ was;
+        other = λ k j in-row no-turn other. quarantine-row-other pool i (h .below) k j in-row other;
+        other-turn = λ j in-rows other was. quarantine-row-other pool i (h .below) turn-column j (omega arith) other ∙ was;
         beside =
             λ g beside.
             ⊎-elim (λ left. paint-row-before pool i released-byte g left) (λ right. paint-row-after pool i released-byte g right) beside;
         clear = clear-of;
         before = λ held. (refl, refl);
-        states = inr (inr (own 2 (omega arith)));
-        zeros = λ is. absurd (omega (arith, own 2 (omega arith)));
-        live-turn = λ is. absurd (omega (arith, own 2 (omega arith)));
+        states = inr (inr now-is);
+        zeros = λ is. absurd (omega (arith, now-is));
+        live-turn = λ is. absurd (omega (arith, now-is));
         after = λ held. (
-          own 0 (omega arith),
-          ap₂ (λ a b. a + granules b) (own 0 (omega arith)) (own 1 (omega arith)),
-          omega (arith, own 1 (omega arith), laid .sized i h),
+          same-start,
+          ap₂ (λ a b. a + granules b) same-start same-size,
+          omega (arith, same-size, laid .sized i h),
           laid .low i h,
           laid .high i h,
         );
-        of-live = λ is. absurd (omega (arith, own 2 (omega arith)));
+        of-live = λ is. absurd (omega (arith, now-is));
         of-quarantined = λ is g from below. paint-row-in pool i released-byte g from below (in-arena g below);
-        of-none = λ is. absurd (omega (arith, own 2 (omega arith)));
+        of-none = λ is. absurd (omega (arith, now-is));
       })
 
   -- row i is evicted
   pub laid-evict : Laid S R (evict-row pool i .shadow) (evict-row pool i .table)
   laid-evict =
-      let emptied : (k : ℕ) → k < 3 → column k (evict-row pool i .table) i ≡ 0 = evict-row-empty pool i (h .below) in
+      let emptied : (k : ℕ) → k < row-numbers → column k (evict-row pool i .table) i ≡ 0 = evict-row-empty pool i (h .below) in
       let not-now : Held (evict-row pool i .table) i → ⊥ =
-      λ held. ⊎-elim {C = ⊥} (λ is. omega (arith, emptied 2 (omega arith))) (λ is. omega (arith, emptied 2 (omega arith))) (held .has) in
+      λ held. ⊎-elim {C = ⊥} (λ is. omega (arith, emptied state-column (omega arith))) (λ is. omega (arith, emptied state-column (omega arith))) (held .has) in
       laid-repainted {lo = start (pool .table) i} {hi = ends (pool .table) i} laid
       (record {
         below = h .below;
         same-rows = evict-row-rows pool i (h .below);
         same-length = ap length (evict-row-shadow pool i) ∙ paint-row-length pool i redzone-byte;
-        other = λ k j in-row other. evict-row-other pool i (h .below) k j in-row other;
+        other = λ k j in-row no-turn other. evict-row-other pool i (h .below) k j in-row no-turn other;
         other-turn = λ j in-rows other was. omega (arith, evict-row-turn pool i (h .below) j in-rows other);
         beside =
             λ g beside.
@@ -207,12 +215,12 @@ module _ {S R : ℕ} (pool : Pool) (laid : Laid S R (pool .shadow) (pool .table)
             ∙ ⊎-elim (λ left. paint-row-before pool i redzone-byte g left) (λ right. paint-row-after pool i redzone-byte g right) beside;
         clear = clear-of;
         before = λ held. (refl, refl);
-        states = inl (emptied 2 (omega arith));
-        zeros = λ is. (emptied 0 (omega arith), emptied 1 (omega arith), evict-row-own-turn pool i (h .below));
-        live-turn = λ is. evict-row-own-turn pool i (h .below);
+        states = inl (emptied state-column (omega arith));
+        zeros = λ is. emptied;
+        live-turn = λ is. emptied turn-column (omega arith);
         after = λ held. absurd (not-now held);
-        of-live = λ is. absurd (omega (arith, emptied 2 (omega arith)));
-        of-quarantined = λ is. absurd (omega (arith, emptied 2 (omega arith)));
+        of-live = λ is. absurd (omega (arith, emptied state-column (omega arith)));
+        of-quarantined = λ is. absurd (omega (arith, emptied state-column (omega arith)));
         of-none =
             λ is g from below in-arena·.
             ap (λ l. getD l g 0) (evict-row-shadow pool i) ∙ paint-row-in pool i redzone-byte g from below (in-arena g below);

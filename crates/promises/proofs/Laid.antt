@@ -6,7 +6,7 @@ use mathlib.Core.Path.{_≡_, sym, ap, ap₂, subst, _∙_}
 use mathlib.Core.Logic.{_≢_, _⊎_, inl, inr, ⊎-elim}
 use mathlib.Core.List.{List}
 use lib.ListN.{length, getD}
-use Rattle.rules.specs.Limits.{redzone-byte, released-byte, empty, live, quarantined, granule}
+use Rattle.rules.specs.Limits.{start-column, size-column, state-column, turn-column, row-numbers, redzone-byte, released-byte, empty, live, quarantined, granule}
 use Rattle.rules.specs.Table.{rows, column, start, size, state, turn}
 use Rattle.rules.specs.Grant.{granules, granted}
 use Rattle.rules.proofs.Tests.{by-order}
@@ -29,7 +29,7 @@ Off table i g = (g < start table i) ⊎ (ends table i ≤ g)
 pub record Laid (S R : ℕ) (shadow table : List ℕ) : Type 0 where
   pub of-shadow : length shadow ≡ S
   pub states : (i : ℕ) → i < rows table → (state table i ≡ empty) ⊎ ((state table i ≡ live) ⊎ (state table i ≡ quarantined))
-  pub zeros : (i : ℕ) → i < rows table → state table i ≡ empty → (start table i ≡ 0) × (size table i ≡ 0) × (turn table i ≡ 0)
+  pub zeros : (i : ℕ) → i < rows table → state table i ≡ empty → (k : ℕ) → k < row-numbers → column k table i ≡ 0
   pub live-turn : (i : ℕ) → i < rows table → state table i ≡ live → turn table i ≡ 0
   pub sized : (i : ℕ) → Held table i → 0 < size table i
   pub low : (i : ℕ) → Held table i → R ≤ start table i
@@ -41,19 +41,19 @@ pub record Laid (S R : ℕ) (shadow table : List ℕ) : Type 0 where
       → (g : ℕ) → start table i ≤ g → g < ends table i → getD shadow g 0 ≡ released-byte
   pub of-none : (g : ℕ) → g < S → ((i : ℕ) → Held table i → Off table i g) → getD shadow g 0 ≡ redzone-byte
 
--- row i is another one, over the granules from lo to hi - 1 of the shadow; every other row keeps its start, size and state, and
+-- row i is another one, over the granules from lo to hi - 1 of the shadow; every other row keeps its numbers, the turn apart, and
 -- every other granule its byte
 pub record Repainted (S R : ℕ) (shadow table shadow′ table′ : List ℕ) (i lo hi : ℕ) : Type 0 where
   pub below : i < rows table
   pub same-rows : rows table′ ≡ rows table
   pub same-length : length shadow′ ≡ length shadow
-  pub other : (k j : ℕ) → k < 3 → j ≢ i → column k table′ j ≡ column k table j
+  pub other : (k j : ℕ) → k < row-numbers → k ≢ turn-column → j ≢ i → column k table′ j ≡ column k table j
   pub other-turn : (j : ℕ) → j < rows table → j ≢ i → turn table j ≡ 0 → turn table′ j ≡ 0
   pub beside : (g : ℕ) → (g < lo) ⊎ (hi ≤ g) → getD shadow′ g 0 ≡ getD shadow g 0
   pub clear : (j : ℕ) → j ≢ i → Held table j → (ends table j + R ≤ lo) ⊎ (hi + R ≤ start table j)
   pub before : Held table i → (start table i ≡ lo) × (ends table i ≡ hi)
   pub states : (state table′ i ≡ empty) ⊎ ((state table′ i ≡ live) ⊎ (state table′ i ≡ quarantined))
-  pub zeros : state table′ i ≡ empty → (start table′ i ≡ 0) × (size table′ i ≡ 0) × (turn table′ i ≡ 0)
+  pub zeros : state table′ i ≡ empty → (k : ℕ) → k < row-numbers → column k table′ i ≡ 0
   pub live-turn : state table′ i ≡ live → turn table′ i ≡ 0
   pub after : Held table′ i → (start table′ i ≡ lo) × (ends table′ i ≡ hi) × (0 < size table′ i) × (R ≤ lo) × (hi + R ≤ S)
   pub of-live : state table′ i ≡ live
@@ -70,23 +70,29 @@ module _ {S R : ℕ} {shadow table shadow′ table′ : List ℕ} {i lo hi : ℕ
   was-below : (j : ℕ) → j < rows table′ → j < rows table
   was-below j b = omega (arith, new .same-rows)
 
-  same-ends : (j : ℕ) → j ≢ i → ends table′ j ≡ ends table j
-  same-ends j other = ap₂ (λ a s. a + granules s) (new .other 0 j (omega arith) other) (new .other 1 j (omega arith) other)
-
   same-start : (j : ℕ) → j ≢ i → start table′ j ≡ start table j
-  same-start j other = new .other 0 j (omega arith) other
+  same-start j other = new .other start-column j (omega arith) (omega arith) other
+
+  same-size : (j : ℕ) → j ≢ i → size table′ j ≡ size table j
+  same-size j other = new .other size-column j (omega arith) (omega arith) other
+
+  same-state : (j : ℕ) → j ≢ i → state table′ j ≡ state table j
+  same-state j other = new .other state-column j (omega arith) (omega arith) other
+
+  same-ends : (j : ℕ) → j ≢ i → ends table′ j ≡ ends table j
+  same-ends j other = ap₂ (λ a s. a + granules s) (same-start j other) (same-size j other)
 
   -- another row is held as it was
   was-held : (j : ℕ) → j ≢ i → Held table′ j → Held table j
   was-held j other h = record {
     below = was-below j (h .below);
-    has = subst (λ s. (s ≡ live) ⊎ (s ≡ quarantined)) (new .other 2 j (omega arith) other) (h .has);
+    has = subst (λ s. (s ≡ live) ⊎ (s ≡ quarantined)) (same-state j other) (h .has);
   }
 
   is-held : (j : ℕ) → j ≢ i → Held table j → Held table′ j
   is-held j other h = record {
     below = omega (arith, new .same-rows, h .below);
-    has = subst (λ s. (s ≡ live) ⊎ (s ≡ quarantined)) (sym (new .other 2 j (omega arith) other)) (h .has);
+    has = subst (λ s. (s ≡ live) ⊎ (s ≡ quarantined)) (sym (same-state j other)) (h .has);
   }
 
   -- and lies off the granules that are repainted
@@ -114,21 +120,23 @@ module _ {S R : ℕ} {shadow table shadow′ table′ : List ℕ} {i lo hi : ℕ
     states =
         each-row i (λ j. j < rows table′ → (state table′ j ≡ empty) ⊎ ((state table′ j ≡ live) ⊎ (state table′ j ≡ quarantined))) (λ b. new .states)
         (λ j other b.
-        subst (λ s. (s ≡ empty) ⊎ ((s ≡ live) ⊎ (s ≡ quarantined))) (sym (new .other 2 j (omega arith) other)) (laid .states j (was-below j b)));
+        subst (λ s. (s ≡ empty) ⊎ ((s ≡ live) ⊎ (s ≡ quarantined))) (sym (same-state j other)) (laid .states j (was-below j b)));
     zeros =
-        each-row i (λ j. j < rows table′ → state table′ j ≡ empty → (start table′ j ≡ 0) × (size table′ j ≡ 0) × (turn table′ j ≡ 0))
+        each-row i (λ j. j < rows table′ → state table′ j ≡ empty → (k : ℕ) → k < row-numbers → column k table′ j ≡ 0)
         (λ b is. new .zeros is)
         (λ j other b is.
-        let was : (start table j ≡ 0) × (size table j ≡ 0) × (turn table j ≡ 0) =
-        laid .zeros j (was-below j b) (sym (new .other 2 j (omega arith) other) ∙ is) in
-        (same-start j other ∙ was .0, new .other 1 j (omega arith) other ∙ was .1, new .other-turn j (was-below j b) other (was .2)));
+        let was : (k : ℕ) → k < row-numbers → column k table j ≡ 0 = laid .zeros j (was-below j b) (sym (same-state j other) ∙ is) in
+        let turn-zero : turn table′ j ≡ 0 = new .other-turn j (was-below j b) other (was turn-column (omega arith)) in
+        each-row turn-column (λ k. k < row-numbers → column k table′ j ≡ 0)
+        (λ in-row. turn-zero)
+        (λ k no-turn in-row. new .other k j in-row no-turn other ∙ was k in-row));
     live-turn =
         each-row i (λ j. j < rows table′ → state table′ j ≡ live → turn table′ j ≡ 0) (λ b is. new .live-turn is)
         (λ j other b is.
-        new .other-turn j (was-below j b) other (laid .live-turn j (was-below j b) (sym (new .other 2 j (omega arith) other) ∙ is)));
+        new .other-turn j (was-below j b) other (laid .live-turn j (was-below j b) (sym (same-state j other) ∙ is)));
     sized =
         each-row i (λ j. Held table′ j → 0 < size table′ j) (λ h. new .after h .2)
-        (λ j other h. omega (arith, new .other 1 j (omega arith) other, laid .sized j (was-held j other h)));
+        (λ j other h. omega (arith, same-size j other, laid .sized j (was-held j other h)));
     low =
         each-row i (λ j. Held table′ j → R ≤ start table′ j) (λ h. omega (arith, new .after h .0, new .after h .3))
         (λ j other h. omega (arith, same-start j other, laid .low j (was-held j other h)));
@@ -154,14 +162,14 @@ module _ {S R : ℕ} {shadow table shadow′ table′ : List ℕ} {i lo hi : ℕ
         (λ j. j < rows table′ → state table′ j ≡ live → (k : ℕ) → k < granules (size table′ j) → getD shadow′ (start table′ j + k) 0 ≡ getD (granted (size table′ j)) k 0)
         (λ b is. new .of-live is)
         (λ j other b is k in-block.
-        let same-size : size table′ j ≡ size table j = new .other 1 j (omega arith) other in
-        let was : state table j ≡ live = sym (new .other 2 j (omega arith) other) ∙ is in
-        let in-block′ : k < granules (size table j) = subst (λ s. k < granules s) same-size in-block in
+        let sizes : size table′ j ≡ size table j = same-size j other in
+        let was : state table j ≡ live = sym (same-state j other) ∙ is in
+        let in-block′ : k < granules (size table j) = subst (λ s. k < granules s) sizes in-block in
         ap (λ a. getD shadow′ (a + k) 0) (same-start j other)
         ∙ new .beside (start table j + k)
         (off-changed j other (record { below = was-below j b; has = inl was }) (start table j + k) (omega arith) (omega arith))
         ∙ laid .of-live j (was-below j b) was k in-block′
-        ∙ ap (λ s. getD (granted s) k 0) (sym same-size));
+        ∙ ap (λ s. getD (granted s) k 0) (sym sizes));
     of-quarantined =
         each-row i
         (λ j. j < rows table′ → state table′ j ≡ quarantined → (g : ℕ) → start table′ j ≤ g → g < ends table′ j → getD shadow′ g 0 ≡ released-byte)
@@ -169,7 +177,7 @@ module _ {S R : ℕ} {shadow table shadow′ table′ : List ℕ} {i lo hi : ℕ
         let a = new .after (record { below = b; has = inr is }) in
         new .of-quarantined is g (omega (arith, a .0)) (omega (arith, a .1)))
         (λ j other b is g from below.
-        let was : state table j ≡ quarantined = sym (new .other 2 j (omega arith) other) ∙ is in
+        let was : state table j ≡ quarantined = sym (same-state j other) ∙ is in
         let from′ : start table j ≤ g = omega (arith, same-start j other) in
         let below′ : g < ends table j = omega (arith, same-ends j other) in
         new .beside g (off-changed j other (record { below = was-below j b; has = inr was }) g from′ below′)

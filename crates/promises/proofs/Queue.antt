@@ -11,14 +11,15 @@ use mathlib.Core.Option.{some, Option·some-injective}
 use mathlib.Core.List.{List, [], _∷_, _++_}
 use lib.ListN.{length, getElem?, length-append}
 use borrow.Author.Tests.{eqb-true, eq-eqb, ne-eqb}
-use Rattle.rules.specs.Limits.{row-numbers, live, quarantined}
+use Rattle.rules.specs.Limits.{start-column, size-column, state-column, turn-column, row-numbers, live, quarantined}
 use Rattle.rules.specs.Lowest.{total}
 use Rattle.rules.specs.Table.{rows, column, size, state, turn, is-quarantined, put-row}
+use Rattle.rules.specs.Grant.{granted-row}
 use Rattle.rules.specs.Release.{if-quarantined, in-quarantine, weight, weights, Pool, oldest, evict-row, evict-oldest, settle, quarantine-row}
 use Rattle.rules.proofs.Tests.{by-order}
 use Rattle.rules.proofs.Lowest.{total-same, total-most}
 use Rattle.rules.proofs.Table.{rows-same, length-put-row, column-put-row, column-put-row-other}
-use Rattle.rules.proofs.Release.{Oldest, oldest-some, some-oldest, if-quarantined-no, if-quarantined-same, evict-row-rows, evict-row-empty, evict-row-other, evict-row-turn, evict-row-count, evict-row-weights, evict-oldest-is, settle-done, settle-more, by-evictions, quarantine-row-lengths, quarantine-row-own, quarantine-row-other, quarantine-row-sum, quarantine-row-weights}
+use Rattle.rules.proofs.Release.{Oldest, oldest-some, some-oldest, if-quarantined-no, if-quarantined-same, evict-row-rows, evict-row-empty, evict-row-other, evict-row-turn, evict-row-count, evict-row-weights, evict-oldest-is, settle-done, settle-more, by-evictions, quarantine-row-lengths, quarantine-row-state, quarantine-row-turn, quarantine-row-own, quarantine-row-other, quarantine-row-sum, quarantine-row-weights}
 use Rattle.promises.specs.History.{Block, weigh, latest}
 use Rattle.promises.specs.Rows.{_∈_, of-row, RowOf}
 use Rattle.promises.proofs.Laid.{of-row-same}
@@ -69,21 +70,23 @@ queue-none R table no-row = record {
 
 module _ (R : ℕ) (table : List ℕ) (blocks : List Block) (i p s : ℕ) (below : i < rows table) (apart : state table i ≢ quarantined) where
   -- no quarantined row is the one that was put
-  put-apart : (j : ℕ) → state (put-row table i p s live 0) j ≡ quarantined → j ≢ i
+  put-apart : (j : ℕ) → state (put-row table i (granted-row p s)) j ≡ quarantined → j ≢ i
   put-apart j held same =
-      let own : state (put-row table i p s live 0) i ≡ 1 = column-put-row table i p s live 0 below 2 (omega arith) in
-      let held-own : state (put-row table i p s live 0) i ≡ 2 = ap (state (put-row table i p s live 0)) (sym same) ∙ held in
+      let own : state (put-row table i (granted-row p s)) i ≡ live =
+      column-put-row table i (granted-row p s) below state-column (omega arith) in
+      let held-own : state (put-row table i (granted-row p s)) i ≡ quarantined =
+      ap (state (put-row table i (granted-row p s))) (sym same) ∙ held in
       omega arith
 
-  put-rows : rows (put-row table i p s live 0) ≡ rows table
-  put-rows = rows-same (put-row table i p s live 0) table (length-put-row table i p s live 0 below)
+  put-rows : rows (put-row table i (granted-row p s)) ≡ rows table
+  put-rows = rows-same (put-row table i (granted-row p s)) table (length-put-row table i (granted-row p s) below)
 
   -- what is summed over the quarantined rows stays
   put-summed : (f : ℕ → ℕ)
-      → total (if-quarantined (put-row table i p s live 0) (λ j. f (size (put-row table i p s live 0) j))) (rows (put-row table i p s live 0))
+      → total (if-quarantined (put-row table i (granted-row p s)) (λ j. f (size (put-row table i (granted-row p s)) j))) (rows (put-row table i (granted-row p s)))
       ≡ total (if-quarantined table (λ j. f (size table j))) (rows table)
   put-summed f =
-      let other : List ℕ = put-row table i p s live 0 in
+      let other : List ℕ = put-row table i (granted-row p s) in
       ap (total (if-quarantined other (λ j. f (size other j)))) put-rows
       ∙ total-same (if-quarantined other (λ j. f (size other j))) (if-quarantined table (λ j. f (size table j))) (rows table)
       (λ j in-rows.
@@ -95,21 +98,21 @@ module _ (R : ℕ) (table : List ℕ) (blocks : List Block) (i p s : ℕ) (below
             (ne-eqb (state table j) quarantined (λ held. apart (ap (state table) (sym same) ∙ held))))
         | no unlike ↦
             if-quarantined-same other table (λ k. f (size other k)) (λ k. f (size table k)) j
-            (column-put-row-other table i p s live 0 below 2 j (omega arith) unlike)
-            (ap f (column-put-row-other table i p s live 0 below 1 j (omega arith) unlike))
+            (column-put-row-other table i (granted-row p s) below state-column j (omega arith) unlike)
+            (ap f (column-put-row-other table i (granted-row p s) below size-column j (omega arith) unlike))
       ])
 
   -- a live row put where none was quarantined
-  pub queue-put : Queue R table blocks → Queue R (put-row table i p s live 0) blocks
+  pub queue-put : Queue R table blocks → Queue R (put-row table i (granted-row p s)) blocks
   unfolding in-quarantine weights
   queue-put q =
-      let other : List ℕ = put-row table i p s live 0 in
+      let other : List ℕ = put-row table i (granted-row p s) in
       let as-it-was : (k j : ℕ) → k < row-numbers → j ≢ i → column k other j ≡ column k table j =
-      column-put-row-other table i p s live 0 below in
+      column-put-row-other table i (granted-row p s) below in
       let before : (j : ℕ) → state other j ≡ quarantined → state table j ≡ quarantined =
-      λ j held. sym (as-it-was 2 j (omega arith) (put-apart j held)) ∙ held in
+      λ j held. sym (as-it-was state-column j (omega arith) (put-apart j held)) ∙ held in
       let same-turn : (j : ℕ) → state other j ≡ quarantined → turn other j ≡ turn table j =
-      λ j held. as-it-was 3 j (omega arith) (put-apart j held) in
+      λ j held. as-it-was turn-column j (omega arith) (put-apart j held) in
       record {
         count = put-summed (λ _. 1) ∙ q .count;
         weighed = put-summed (weight R) ∙ q .weighed;
@@ -117,7 +120,7 @@ module _ (R : ℕ) (table : List ℕ) (blocks : List Block) (i p s : ℕ) (below
             λ j in-rows held.
             let unlike : j ≢ i = put-apart j held in
             let same : of-row other j ≡ of-row table j =
-            of-row-same other table j (as-it-was 0 j (omega arith) unlike) (as-it-was 1 j (omega arith) unlike) in
+            of-row-same other table j (as-it-was start-column j (omega arith) unlike) (as-it-was size-column j (omega arith) unlike) in
             subst (λ t. Placed blocks t (of-row other j)) (sym (same-turn j held))
             (subst (Placed blocks (turn table j)) (sym same) (q .order j (omega (arith, put-rows)) (before j held)));
         every-turn =
@@ -126,8 +129,8 @@ module _ (R : ℕ) (table : List ℕ) (blocks : List Block) (i p s : ℕ) (below
             let unlike : old .0 ≢ i = λ same. apart (ap (state table) (sym same) ∙ old .2) in (
               old .0,
               omega (arith, put-rows, old .1),
-              as-it-was 2 (old .0) (omega arith) unlike ∙ old .2,
-              as-it-was 3 (old .0) (omega arith) unlike ∙ old .3,
+              as-it-was state-column (old .0) (omega arith) unlike ∙ old .2,
+              as-it-was turn-column (old .0) (omega arith) unlike ∙ old .3,
             );
         once =
             λ j k in-rows in-rows′ held held′ same.
@@ -156,13 +159,13 @@ module _ (R : ℕ) (pool : Pool) (blocks : List Block) (i : ℕ) (below : i < ro
       let other : List ℕ = quarantine-row pool i .table in
       let x : Block = of-row table i in
       let as-it-was : (k j : ℕ) → k < row-numbers → j ≢ i → column k other j ≡ column k table j = quarantine-row-other pool i below in
-      let own-turn : turn other i ≡ in-quarantine table + 1 = quarantine-row-own pool i below 3 (omega arith) in
+      let own-turn : turn other i ≡ in-quarantine table + 1 = quarantine-row-turn pool i below in
       let last-turn : turn other i ≡ suc (length blocks) = omega (arith, q .count) in
       let before : (j : ℕ) → j ≢ i → state other j ≡ quarantined → state table j ≡ quarantined =
-      λ j unlike held. sym (as-it-was 2 j (omega arith) unlike) ∙ held in
+      λ j unlike held. sym (as-it-was state-column j (omega arith) unlike) ∙ held in
       let old-turn : (j : ℕ) → j ≢ i → j < rows other → state other j ≡ quarantined → turn other j ≤ length blocks =
       λ j unlike in-rows held.
-      omega (arith, as-it-was 3 j (omega arith) unlike, q .order j (omega (arith, quarantine-rows)) (before j unlike held) .1) in
+      omega (arith, as-it-was turn-column j (omega arith) unlike, q .order j (omega (arith, quarantine-rows)) (before j unlike held) .1) in
       record {
         count = quarantine-count ∙ ap (λ n. n + 1) (q .count) ∙ add-one (length blocks);
         weighed = omega (arith, quarantine-row-weights pool i below R not-yet, q .weighed, weigh-cons R x blocks);
@@ -172,31 +175,33 @@ module _ (R : ℕ) (pool : Pool) (blocks : List Block) (i : ℕ) (below : i < ro
               | yes same ↦
                   let in-front : suc (length blocks) - suc (length blocks) ≡ 0 = omega arith in
                   let own-block : of-row other i ≡ x =
-                  of-row-same other table i (quarantine-row-own pool i below 0 (omega arith)) (quarantine-row-own pool i below 1 (omega arith)) in
+                  of-row-same other table i
+                  (quarantine-row-own pool i below start-column (omega arith) (omega arith) (omega arith))
+                  (quarantine-row-own pool i below size-column (omega arith) (omega arith) (omega arith)) in
                   subst (λ k. Placed (x ∷ blocks) (turn other k) (of-row other k)) (sym same)
                   (subst (λ t. Placed (x ∷ blocks) t (of-row other i)) (sym last-turn)
                   (omega arith, omega arith, ap (getElem? (x ∷ blocks)) in-front ∙ ap some (sym own-block)))
               | no unlike ↦
                   let old : Placed blocks (turn table j) (of-row table j) = q .order j (omega (arith, quarantine-rows)) (before j unlike held) in
                   let later : suc (length blocks) - turn table j ≡ suc (length blocks - turn table j) = omega (arith, old .1) in
-                  subst (λ t. Placed (x ∷ blocks) t (of-row other j)) (sym (as-it-was 3 j (omega arith) unlike)) (
+                  subst (λ t. Placed (x ∷ blocks) t (of-row other j)) (sym (as-it-was turn-column j (omega arith) unlike)) (
                     old .0,
                     omega (arith, old .1),
                     ap (getElem? (x ∷ blocks)) later ∙ old .2
-                        ∙ ap some (sym (of-row-same other table j (as-it-was 0 j (omega arith) unlike) (as-it-was 1 j (omega arith) unlike))),
+                        ∙ ap some (sym (of-row-same other table j (as-it-was start-column j (omega arith) unlike) (as-it-was size-column j (omega arith) unlike))),
                   )
             ];
         every-turn =
             λ t above upto.
             by-order (length blocks) t
-            (λ last. (i, omega (arith, quarantine-rows), quarantine-row-own pool i below 2 (omega arith), omega arith))
+            (λ last. (i, omega (arith, quarantine-rows), quarantine-row-state pool i below, omega arith))
             (λ older.
             let old : HasTurn table t = q .every-turn t above older in
             let unlike : old .0 ≢ i = λ same. absurd (omega (arith, old .2, ap (state table) same)) in (
               old .0,
               omega (arith, quarantine-rows, old .1),
-              as-it-was 2 (old .0) (omega arith) unlike ∙ old .2,
-              as-it-was 3 (old .0) (omega arith) unlike ∙ old .3,
+              as-it-was state-column (old .0) (omega arith) unlike ∙ old .2,
+              as-it-was turn-column (old .0) (omega arith) unlike ∙ old .3,
             ));
         once =
             λ j k in-rows in-rows′ held held′ same.
@@ -211,7 +216,7 @@ module _ (R : ℕ) (pool : Pool) (blocks : List Block) (i : ℕ) (below : i < ro
                     | yes second ↦ absurd (omega (arith, old-turn j unlike in-rows held, ap (turn other) second))
                     | no unlike′ ↦
                         q .once j k (omega (arith, quarantine-rows)) (omega (arith, quarantine-rows)) (before j unlike held) (before k unlike′ held′)
-                        (sym (as-it-was 3 j (omega arith) unlike) ∙ same ∙ as-it-was 3 k (omega arith) unlike′)
+                        (sym (as-it-was turn-column j (omega arith) unlike) ∙ same ∙ as-it-was turn-column k (omega arith) unlike′)
                   ]
             ];
       }
@@ -232,7 +237,7 @@ module _ (R : ℕ) (pool : Pool) (rest : List Block) (i : ℕ) (o : Oldest (pool
   -- no quarantined row is the one that was evicted
   evicted-apart : (j : ℕ) → state (evict-row pool i .table) j ≡ quarantined → j ≢ i
   evicted-apart j held same =
-      omega (arith, evict-row-empty pool i (o .below) 2 (omega arith), ap (state (evict-row pool i .table)) (sym same) ∙ held)
+      omega (arith, evict-row-empty pool i (o .below) state-column (omega arith), ap (state (evict-row pool i .table)) (sym same) ∙ held)
 
   -- of blocks with the oldest at the end, those before it are left
   queue-before : Queue R (pool .table) (rest ++ (of-row (pool .table) i ∷ [])) → Queue R (evict-row pool i .table) rest
@@ -243,11 +248,12 @@ module _ (R : ℕ) (pool : Pool) (rest : List Block) (i : ℕ) (o : Oldest (pool
       let blocks : List Block = rest ++ (y ∷ []) in
       let longer : length blocks ≡ length rest + 1 = length-append rest (y ∷ []) in
       let alone : weigh R (y ∷ []) ≡ weight R (y .size) = omega (arith, weigh-cons R y [], weigh-nil R) in
-      let as-it-was : (k j : ℕ) → k < 3 → j ≢ i → column k other j ≡ column k table j = evict-row-other pool i (o .below) in
+      let as-it-was : (k j : ℕ) → k < row-numbers → k ≢ turn-column → j ≢ i → column k other j ≡ column k table j =
+      evict-row-other pool i (o .below) in
       let first-turn : turn table i ≡ 1 = oldest-turn R table blocks i o q in
       let held-own : state table i ≡ quarantined = eqb-true (state table i) quarantined (o .held) in
       let before : (j : ℕ) → state other j ≡ quarantined → state table j ≡ quarantined =
-      λ j held. sym (as-it-was 2 j (omega arith) (evicted-apart j held)) ∙ held in
+      λ j held. sym (as-it-was state-column j (omega arith) (omega arith) (evicted-apart j held)) ∙ held in
       let old : (j : ℕ) → j < rows other → state other j ≡ quarantined → Placed blocks (turn table j) (of-row table j) =
       λ j in-rows held. q .order j (omega (arith, evicted-rows)) (before j held) in
       let lessened-turn : (j : ℕ) → j < rows other → state other j ≡ quarantined → turn other j ≡ turn table j - 1 =
@@ -269,7 +275,7 @@ module _ (R : ℕ) (pool : Pool) (rest : List Block) (i : ℕ) (o : Oldest (pool
               sym (place-before rest (y ∷ []) (length rest - (turn table j - 1)) (omega (arith, placed .1)))
                   ∙ ap (getElem? blocks) same-place
                   ∙ placed .2
-                  ∙ ap some (sym (of-row-same other table j (as-it-was 0 j (omega arith) unlike) (as-it-was 1 j (omega arith) unlike))),
+                  ∙ ap some (sym (of-row-same other table j (as-it-was start-column j (omega arith) (omega arith) unlike) (as-it-was size-column j (omega arith) (omega arith) unlike))),
             );
         every-turn =
             λ t above upto.
@@ -277,7 +283,7 @@ module _ (R : ℕ) (pool : Pool) (rest : List Block) (i : ℕ) (o : Oldest (pool
             let unlike : one-on .0 ≢ i = λ same. absurd (omega (arith, one-on .3, ap (turn table) same)) in (
               one-on .0,
               omega (arith, evicted-rows, one-on .1),
-              as-it-was 2 (one-on .0) (omega arith) unlike ∙ one-on .2,
+              as-it-was state-column (one-on .0) (omega arith) (omega arith) unlike ∙ one-on .2,
               omega (arith, evict-row-turn pool i (o .below) (one-on .0) (one-on .1) unlike, one-on .3),
             );
         once =

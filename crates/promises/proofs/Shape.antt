@@ -4,6 +4,7 @@ use native.Mathlib.Omega.{arith}
 use mathlib.Core.Path.{_≡_, _∙_, sym}
 use mathlib.Core.List.{List, _++_, Memᴰ·cast}
 use lib.ListN.{length}
+use Rattle.rules.proofs.Table.{row-of-zeros}
 use Rattle.promises.specs.History.{Block, latest, held}
 use Rattle.promises.specs.Replay.{ran, happened}
 use Rattle.promises.specs.Shape.{Shape, Encoding, RowsAreBlocks}
@@ -20,7 +21,7 @@ shape r =
     let queue = stands .queue in
     record {
       states = laid .states;
-      zeros = laid .zeros;
+      zeros = λ i below is. row-of-zeros _ i (laid .zeros i below is);
       live-turn = laid .live-turn;
       turns = λ i below is. (queue .order i below is .0, omega (arith, queue .order i below is .1, queue .count));
       every-turn = λ t above upto. queue .every-turn t above (omega (arith, queue .count));

@@ -10,17 +10,20 @@ use mathlib.Core.List.{List, [], _∷_, List·Memᴰ·head, List·Memᴰ·tail, 
 use lib.ListN.{length, getD}
 use lib.Dec.{eqb}
 use borrow.Author.Tests.{eqb-true, eq-eqb, ne-eqb}
-use Rattle.rules.specs.Limits.{granule, row-numbers, empty, live, quarantined}
+use Rattle.rules.specs.Limits.{granule, start-column, size-column, state-column, turn-column, row-numbers}
+use Rattle.rules.specs.Limits.{empty, live, quarantined}
 use Rattle.rules.specs.Lowest.{total, total-zero, total-suc}
 use Rattle.rules.specs.Put.{put}
-use Rattle.rules.specs.Table.{rows, column, start, size, state, is-empty, put-row}
-use Rattle.rules.specs.Grant.{granules, granted, Fits}
+use Rattle.rules.specs.Table.{rows, column, start, size, state, is-empty, numbers, put-row}
+use Rattle.rules.specs.Grant.{granules, granted, granted-row, Fits}
 use Rattle.rules.specs.Release.{Pool, if-quarantined, in-quarantine, evict-row, quarantine-row, settle}
 use Rattle.rules.proofs.Tests.{by-order, if-true, if-false}
 use Rattle.rules.proofs.Lowest.{total-same, total-change, total-most}
 use Rattle.rules.proofs.Table.{rows-same, length-put-row, column-put-row, column-put-row-other}
 use Rattle.rules.proofs.Grant.{granules-above}
-use Rattle.rules.proofs.Release.{Oldest, if-quarantined-no, if-quarantined-same, evict-row-rows, evict-row-empty, evict-row-other, evict-row-count, quarantine-row-lengths, quarantine-row-own, quarantine-row-other, quarantine-row-sum, settled-has}
+use Rattle.rules.proofs.Release.{Oldest, if-quarantined-no, if-quarantined-same, settled-has}
+use Rattle.rules.proofs.Release.{evict-row-rows, evict-row-empty, evict-row-other, evict-row-count}
+use Rattle.rules.proofs.Release.{quarantine-row-lengths, quarantine-row-state, quarantine-row-other, quarantine-row-sum}
 use Rattle.promises.specs.History.{Block, block, others}
 use Rattle.promises.specs.Rows.{_∈_, Held, of-row, RowOf}
 use Rattle.promises.proofs.Blocks.{Distinct, distinct-nil, distinct-cons, distinct-others, others-of, others-in, length-others}
@@ -120,38 +123,39 @@ live-none table none· = record {
 -- a live row is put
 live-put : (table : List ℕ) (blocks : List Block) (i p s : ℕ) → i < rows table → state table i ≢ live
     → ((x : Block) → x ∈ blocks → x .address ≢ granule * p)
-    → LiveRows table blocks → LiveRows (put-row table i p s live 0) (block (granule * p) s ∷ blocks)
+    → LiveRows table blocks → LiveRows (put-row table i (granted-row p s)) (block (granule * p) s ∷ blocks)
 live-put table blocks i p s below not-live new lives =
-    let table′ : List ℕ = put-row table i p s live 0 in
-    let same-rows : rows table′ ≡ rows table = rows-same table′ table (length-put-row table i p s live 0 below) in
-    let own : (k : ℕ) → k < row-numbers → column k table′ i ≡ getD (p ∷ s ∷ live ∷ 0 ∷ []) k 0 = column-put-row table i p s live 0 below in
-    let other : (k j : ℕ) → k < row-numbers → j ≢ i → column k table′ j ≡ column k table j = column-put-row-other table i p s live 0 below in
-    let own-block : of-row table′ i ≡ block (granule * p) s = ap₂ (λ a b. block (granule * a) b) (own 0 (omega arith)) (own 1 (omega arith)) in
+    let table′ : List ℕ = put-row table i (granted-row p s) in
+    let same-rows : rows table′ ≡ rows table = rows-same table′ table (length-put-row table i (granted-row p s) below) in
+    let own : (k : ℕ) → k < row-numbers → column k table′ i ≡ getD (numbers (granted-row p s)) k 0 = column-put-row table i (granted-row p s) below in
+    let other : (k j : ℕ) → k < row-numbers → j ≢ i → column k table′ j ≡ column k table j = column-put-row-other table i (granted-row p s) below in
+    let own-block : of-row table′ i ≡ block (granule * p) s = ap₂ (λ a b. block (granule * a) b) (own start-column (omega arith)) (own size-column (omega arith)) in
     let same-block : (j : ℕ) → j ≢ i → of-row table′ j ≡ of-row table j =
-    λ j differ. of-row-same table′ table j (other 0 j (omega arith) differ) (other 1 j (omega arith) differ) in
+    λ j differ. of-row-same table′ table j (other start-column j (omega arith) differ) (other size-column j (omega arith) differ) in
     record {
       row = λ x m.
           ⊎-elim
-          (λ e. (i, omega (arith, same-rows), own 2 (omega arith), own-block ∙ sym e))
+          (λ e. (i, omega (arith, same-rows), own state-column (omega arith), own-block ∙ sym e))
           (λ later.
           let was : RowOf table live x = lives .row x later in
           let differ : was .0 ≢ i = λ e. not-live (ap (state table) (sym e) ∙ was .2) in
-          (was .0, omega (arith, same-rows, was .1), other 2 (was .0) (omega arith) differ ∙ was .2, same-block (was .0) differ ∙ was .3))
+          (was .0, omega (arith, same-rows, was .1), other state-column (was .0) (omega arith) differ ∙ was .2, same-block (was .0) differ ∙ was .3))
           (List·Memᴰ·cases-cons m);
       listed =
           each-row i (λ j. j < rows table′ → state table′ j ≡ live → of-row table′ j ∈ (block (granule * p) s ∷ blocks))
           (λ b is. List·Memᴰ·head own-block)
           (λ j differ b is.
           List·Memᴰ·tail
-          (Memᴰ·cast (same-block j differ) (lives .listed j (omega (arith, same-rows)) (sym (other 2 j (omega arith) differ) ∙ is))));
+          (Memᴰ·cast (same-block j differ) (lives .listed j (omega (arith, same-rows)) (sym (other state-column j (omega arith) differ) ∙ is))));
       distinct = distinct-cons (block (granule * p) s) blocks new (lives .distinct);
     }
 
--- row i changes: every other row keeps its start, size and state
+-- row i changes: every other row keeps its numbers, the turn apart
 module _ (table table′ : List ℕ) (i : ℕ) (same-rows : rows table′ ≡ rows table)
-    (other : (k j : ℕ) → k < 3 → j ≢ i → column k table′ j ≡ column k table j) (not-now : state table′ i ≢ live) (blocks : List Block) where
+    (other : (k j : ℕ) → k < row-numbers → k ≢ turn-column → j ≢ i → column k table′ j ≡ column k table j)
+    (not-now : state table′ i ≢ live) (blocks : List Block) where
   same-block : (j : ℕ) → j ≢ i → of-row table′ j ≡ of-row table j
-  same-block j differ = of-row-same table′ table j (other 0 j (omega arith) differ) (other 1 j (omega arith) differ)
+  same-block j differ = of-row-same table′ table j (other start-column j (omega arith) (omega arith) differ) (other size-column j (omega arith) (omega arith) differ)
 
   -- it was not live, nor is it now
   live-other : state table i ≢ live → LiveRows table blocks → LiveRows table′ blocks
@@ -159,11 +163,11 @@ module _ (table table′ : List ℕ) (i : ℕ) (same-rows : rows table′ ≡ ro
     row = λ x m.
         let was : RowOf table live x = lives .row x m in
         let differ : was .0 ≢ i = λ e. not-live (ap (state table) (sym e) ∙ was .2) in
-        (was .0, omega (arith, same-rows, was .1), other 2 (was .0) (omega arith) differ ∙ was .2, same-block (was .0) differ ∙ was .3);
+        (was .0, omega (arith, same-rows, was .1), other state-column (was .0) (omega arith) (omega arith) differ ∙ was .2, same-block (was .0) differ ∙ was .3);
     listed =
         each-row i (λ j. j < rows table′ → state table′ j ≡ live → of-row table′ j ∈ blocks) (λ b is. absurd (not-now is))
         (λ j differ b is.
-        Memᴰ·cast (same-block j differ) (lives .listed j (omega (arith, same-rows)) (sym (other 2 j (omega arith) differ) ∙ is)));
+        Memᴰ·cast (same-block j differ) (lives .listed j (omega (arith, same-rows)) (sym (other state-column j (omega arith) (omega arith) differ) ∙ is)));
     distinct = lives .distinct;
   }
 
@@ -175,12 +179,12 @@ module _ (table table′ : List ℕ) (i : ℕ) (same-rows : rows table′ ≡ ro
         let was : RowOf table live x = lives .row x (others-of a blocks x m .0) in
         let differ : was .0 ≢ i =
         λ e. others-of a blocks x m .1 (ap (λ y. y .address) (sym (was .3)) ∙ ap (λ j. granule * start table j) e ∙ at-a) in
-        (was .0, omega (arith, same-rows, was .1), other 2 (was .0) (omega arith) differ ∙ was .2, same-block (was .0) differ ∙ was .3);
+        (was .0, omega (arith, same-rows, was .1), other state-column (was .0) (omega arith) (omega arith) differ ∙ was .2, same-block (was .0) differ ∙ was .3);
     listed =
         each-row i (λ j. j < rows table′ → state table′ j ≡ live → of-row table′ j ∈ others a blocks) (λ b is. absurd (not-now is))
         (λ j differ b is.
         let in-rows : j < rows table = omega (arith, same-rows) in
-        let was : state table j ≡ live = sym (other 2 j (omega arith) differ) ∙ is in
+        let was : state table j ≡ live = sym (other state-column j (omega arith) (omega arith) differ) ∙ is in
         Memᴰ·cast (same-block j differ) (others-in a blocks (of-row table j) (lives .listed j in-rows was) (only j in-rows differ was)));
     distinct = distinct-others a blocks (lives .distinct);
   }
@@ -205,15 +209,15 @@ starts-apart {R = R} {table = table} laid i j h h′ differ same =
 module _ {S R : ℕ} {shadow table : List ℕ} {blocks : List Block} (standing : Standing S R shadow table blocks) where
   -- a grant of s bytes at p, into row i
   pub standing-grant : (i s p : ℕ) → i < rows table → state table i ≡ empty → 0 < s → Fits shadow R (granules s) p
-      → Standing S R (put shadow p (granted s)) (put-row table i p s live 0) (block (granule * p) s ∷ blocks)
+      → Standing S R (put shadow p (granted s)) (put-row table i (granted-row p s)) (block (granule * p) s ∷ blocks)
   standing-grant i s p below is-empty sized fits =
-      let table′ : List ℕ = put-row table i p s live 0 in
+      let table′ : List ℕ = put-row table i (granted-row p s) in
       let laid : Laid S R shadow table = standing .laid in
-      let same-rows : rows table′ ≡ rows table = rows-same table′ table (length-put-row table i p s live 0 below) in
-      let other : (k j : ℕ) → k < row-numbers → j ≢ i → column k table′ j ≡ column k table j = column-put-row-other table i p s live 0 below in
-      let is-live : state table′ i ≡ live = column-put-row table i p s live 0 below 2 (omega arith) in
+      let same-rows : rows table′ ≡ rows table = rows-same table′ table (length-put-row table i (granted-row p s) below) in
+      let other : (k j : ℕ) → k < row-numbers → j ≢ i → column k table′ j ≡ column k table j = column-put-row-other table i (granted-row p s) below in
+      let is-live : state table′ i ≡ live = column-put-row table i (granted-row p s) below state-column (omega arith) in
       let change : in-use table + use-of table′ i ≡ in-use table′ + use-of table i =
-      use-change table table′ i below same-rows (λ j differ. other 2 j (omega arith) differ) in
+      use-change table table′ i below same-rows (λ j differ. other state-column j (omega arith) differ) in
       let now : use-of table′ i ≡ 1 = use-other table′ i (λ e. absurd (omega arith)) in
       let was : use-of table i ≡ 0 = use-empty table i is-empty in
       record {
@@ -231,7 +235,7 @@ module _ {S R : ℕ} {shadow table : List ℕ} {blocks : List Block} (standing :
             (standing .lives);
         used =
             let same : in-quarantine table′ ≡ in-quarantine table =
-            in-quarantine-same table table′ i same-rows (λ j differ. other 2 j (omega arith) differ) (λ e. absurd (omega arith)) (λ e. absurd (omega arith)) in
+            in-quarantine-same table table′ i same-rows (λ j differ. other state-column j (omega arith) differ) (λ e. absurd (omega arith)) (λ e. absurd (omega arith)) in
             omega (arith, standing .used);
       }
 
@@ -246,12 +250,12 @@ module _ {S R : ℕ} (pool : Pool) where
       let table′ : List ℕ = quarantine-row pool i .table in
       let h : Held table i = record { below = below; has = inl is } in
       let same-rows : rows table′ ≡ rows table = rows-same table′ table (quarantine-row-lengths pool i below .1) in
-      let other : (k j : ℕ) → k < 3 → j ≢ i → column k table′ j ≡ column k table j =
-      λ k j in-row differ. quarantine-row-other pool i below k j (omega arith) differ in
-      let now-is : state table′ i ≡ quarantined = quarantine-row-own pool i below 2 (omega arith) in
+      let other : (k j : ℕ) → k < row-numbers → k ≢ turn-column → j ≢ i → column k table′ j ≡ column k table j =
+      λ k j in-row no-turn differ. quarantine-row-other pool i below k j in-row differ in
+      let now-is : state table′ i ≡ quarantined = quarantine-row-state pool i below in
       let listed : of-row table i ∈ blocks = standing .lives .listed i below is in
       let change : in-use table + use-of table′ i ≡ in-use table′ + use-of table i =
-      use-change table table′ i below same-rows (λ j differ. other 2 j (omega arith) differ) in
+      use-change table table′ i below same-rows (λ j differ. other state-column j (omega arith) (omega arith) differ) in
       let now : use-of table′ i ≡ 1 = use-other table′ i (λ e. absurd (omega arith)) in
       let was : use-of table i ≡ 1 = use-other table i (λ e. absurd (omega arith)) in
       record {
@@ -274,15 +278,16 @@ module _ {S R : ℕ} (pool : Pool) where
       let table′ : List ℕ = evict-row pool i .table in
       let below : i < rows table = oldest .below in
       let is : state table i ≡ quarantined = eqb-true (state table i) quarantined (oldest .held) in
-      let now-is : state table′ i ≡ empty = evict-row-empty pool i below 2 (omega arith) in
+      let now-is : state table′ i ≡ empty = evict-row-empty pool i below state-column (omega arith) in
       let change : in-use table + use-of table′ i ≡ in-use table′ + use-of table i =
-      use-change table table′ i below (evict-row-rows pool i below) (λ j differ. evict-row-other pool i below 2 j (omega arith) differ) in
+      use-change table table′ i below (evict-row-rows pool i below)
+      (λ j differ. evict-row-other pool i below state-column j (omega arith) (omega arith) differ) in
       let now : use-of table′ i ≡ 0 = use-empty table′ i now-is in
       let was : use-of table i ≡ 1 = use-other table i (λ e. absurd (omega arith)) in
       record {
         laid = laid-evict pool (standing .laid) i (record { below = below; has = inr is });
         lives =
-            live-other table table′ i (evict-row-rows pool i below) (λ k j in-row differ. evict-row-other pool i below k j in-row differ) (λ e. absurd (omega arith)) blocks
+            live-other table table′ i (evict-row-rows pool i below) (evict-row-other pool i below) (λ e. absurd (omega arith)) blocks
             (λ e. absurd (omega arith)) (standing .lives);
         used = omega (arith, standing .used, evict-row-count pool i below (oldest .held));
       }

@@ -8,7 +8,7 @@ use mathlib.Core.List.{List, [], _∷_, _++_}
 use lib.ListN.{length, take, getElem?}
 use Rattle.rules.specs.declared.Frame.the-variants.{Grant, Release}
 use Rattle.rules.specs.Limits.{granule, row-numbers, empty, quarantined}
-use Rattle.rules.specs.Table.{rows, column, state, turn}
+use Rattle.rules.specs.Table.{rows, state, turn, row-of}
 use Rattle.rules.specs.Grant.{counted, grant}
 use Rattle.rules.specs.Release.{in-quarantine, weight}
 use Rattle.promises.specs.History.{Exchange, asks, status-of, value-of, Block, block, has-byte, history, weigh, latest, held}
@@ -67,8 +67,8 @@ Heavier = (r : Replay) (y : Block) (earlier : List Block) → happened r .releas
 
 -- a grant never evicts: of any buffers, every row that is not empty stands as it did
 abbrev pub NeverEvicts : Type 0
-NeverEvicts = (R : ℕ) (shadow table : List ℕ) (s k j : ℕ) → k < row-numbers → state table j ≢ empty
-    → column k (grant R shadow table s .table) j ≡ column k table j
+NeverEvicts = (R : ℕ) (shadow table : List ℕ) (s j : ℕ) → state table j ≢ empty
+    → row-of (grant R shadow table s .table) j ≡ row-of table j
 
 -- ---- placement
 

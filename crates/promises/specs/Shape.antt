@@ -6,7 +6,7 @@ use mathlib.Core.Bool.{true, false}
 use mathlib.Core.List.{List, _++_}
 use lib.ListN.{length, getD}
 use Rattle.rules.specs.Limits.{granule, empty, live, quarantined}
-use Rattle.rules.specs.Table.{rows, start, size, state, turn}
+use Rattle.rules.specs.Table.{rows, state, turn, row-of, zero-row}
 use Rattle.rules.specs.Shadow.{negative, addressable}
 use Rattle.rules.specs.Release.{in-quarantine}
 use Rattle.promises.specs.History.{Block, has-byte, lies-in, latest}
@@ -16,7 +16,7 @@ use Rattle.promises.specs.Rows.{_∈_, Held, of-row, drawn, RowOf}
 -- what a table is from an opening on, and the shadow a function of it
 pub record ShapedAs (S : ℕ) (shadow table : List ℕ) : Type 0 where
   pub states : (i : ℕ) → i < rows table → (state table i ≡ empty) ⊎ ((state table i ≡ live) ⊎ (state table i ≡ quarantined))
-  pub zeros : (i : ℕ) → i < rows table → state table i ≡ empty → (start table i ≡ 0) × (size table i ≡ 0) × (turn table i ≡ 0)
+  pub zeros : (i : ℕ) → i < rows table → state table i ≡ empty → row-of table i ≡ zero-row
   pub live-turn : (i : ℕ) → i < rows table → state table i ≡ live → turn table i ≡ 0
   pub turns : (i : ℕ) → i < rows table → state table i ≡ quarantined → (0 < turn table i) × (turn table i ≤ in-quarantine table)
   pub every-turn : (t : ℕ) → 0 < t → t ≤ in-quarantine table → (i : ℕ) × (i < rows table) × (state table i ≡ quarantined) × (turn table i ≡ t)

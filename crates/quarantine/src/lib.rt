@@ -1,14 +1,15 @@
 // The quarantine: a row enters it, and a whole release, shadow and table together.
 use blocks::rows;
-use blocks::rows::SIZE;
-use blocks::rows::START;
 use blocks::rows::Seen;
-use blocks::rows::TURN;
 use evictions::Held;
 use rules::Answer;
 use rules::Found;
 use rules::limits::QUARANTINED;
 use rules::limits::RELEASED_BYTE;
+use rules::limits::SIZE_COLUMN;
+use rules::limits::START_COLUMN;
+use rules::limits::STATE_COLUMN;
+use rules::limits::TURN_COLUMN;
 ghost use mathlib.Core.Path.{_≡_};
 ghost use Rattle.rules.specs.Grant.{acted};
 ghost use Rattle.rules.specs.Release.{release};
@@ -24,8 +25,8 @@ fn first_to_leave(table: &[u32], row: usize, other: Found) -> Found
     let Found::One(second) = other else {
         return Found::One(row);
     };
-    let turn = rows::number(table, row, TURN);
-    let turn_of_second = rows::number(table, second, TURN);
+    let turn = rows::number(table, row, TURN_COLUMN);
+    let turn_of_second = rows::number(table, second, TURN_COLUMN);
     if turn < turn_of_second {
         return Found::One(row);
     }
@@ -38,7 +39,8 @@ fn first_to_leave(table: &[u32], row: usize, other: Found) -> Found
     Found::One(second)
 }
 
-// The row enters the quarantine: its granules fd, its turn the number of quarantined rows, itself counted.
+// The row enters the quarantine: its granules fd, its turn the number of quarantined rows, itself counted;
+// its other numbers stay.
 pub fn quarantine_row(
     shadow: &mut [u8],
     table: &mut [u32],
@@ -49,13 +51,14 @@ pub fn quarantine_row(
     requires { ⌜ Entering redzone (now table) row seen ⌝ }
     ensures { λ r. ⌜ Entered redzone (pool (now (shadow .entry)) (now (table .entry))) row (pool (now (shadow .exit)) (now (table .exit))) r ⌝ }
 {
-    let start = rows::number(table, row, START);
-    let size = rows::number(table, row, SIZE);
+    let start = rows::number(table, row, START_COLUMN);
+    let size = rows::number(table, row, SIZE_COLUMN);
     let turn = seen.count as u32 + 1;
     let oldest = seen.oldest;
     let weight = seen.weight + rows::weight_of(redzone, size);
     paint::row(shadow, start, size, RELEASED_BYTE);
-    rows::put_row(table, row, start, size, QUARANTINED, turn);
+    rows::set_number(table, row, STATE_COLUMN, QUARANTINED);
+    rows::set_number(table, row, TURN_COLUMN, turn);
     Held {
         weight,
         oldest: first_to_leave(table, row, oldest),

@@ -11,13 +11,15 @@ use lib.ListN.{length, getD, replicate, set, length-append, length-replicate, le
 use lib.Seq.{getD-append-add, getD-set-same, getD-set-other, ext-getD}
 use borrow.Author.Tests.{eqb-true, eq-eqb}
 use Rattle.rules.specs.declared.Answer.the-variants.{NoRow, NoPlace}
-use Rattle.rules.specs.Limits.{granule, most-granules, redzone-byte, row-numbers, empty, live}
-use Rattle.rules.specs.Table.{rows, column, state, is-empty}
-use Rattle.rules.specs.Grant.{Acted, unchanged, counted, granules, fits, place, last-granule, granted, empty-row, grant-at, grant, AllFree, Fits, Place}
+use Rattle.rules.specs.declared.Row.{Row}
+use Rattle.rules.specs.Limits.{granule, most-granules, redzone-byte, empty}
+use Rattle.rules.specs.Table.{rows, state, row-of, put-row, is-empty}
+use Rattle.rules.specs.Grant.{Acted, unchanged, counted, granules, fits, place, last-granule, granted}
+use Rattle.rules.specs.Grant.{empty-row, granted-row, grant-at, grant, AllFree, Fits, Place}
 use Rattle.rules.proofs.Tests.{by-found, by-order}
 use Rattle.rules.proofs.Lowest.{Lowest, lowest-some, lowest-none, below-all, all-equal-true, all-equal-is}
 use Rattle.rules.proofs.Put.{length-put}
-use Rattle.rules.proofs.Table.{length-put-row, column-put-row-other}
+use Rattle.rules.proofs.Table.{length-put-row, column-put-row-other, same-row}
 
 -- ---- sizes
 
@@ -224,16 +226,17 @@ grant-lengths R shadow table s =
     by-grant R shadow table s (SameLengths shadow table) (λ full. (refl, refl)) (λ i row nowhere. (refl, refl))
     (λ i p row at. (
       length-put shadow p (granted (counted s)) (place-inside R shadow (counted s) p at),
-      length-put-row table i p (counted s) live 0 (below-all (empty-row-some table i row)),
+      length-put-row table i (granted-row p (counted s)) (below-all (empty-row-some table i row)),
     ))
 
 -- a grant never evicts: a row that is not empty stands as it did
-pub grant-keeps : (R : ℕ) (shadow table : List ℕ) (s k j : ℕ) → k < row-numbers → state table j ≢ empty
-    → column k (grant R shadow table s .table) j ≡ column k table j
+pub grant-keeps : (R : ℕ) (shadow table : List ℕ) (s j : ℕ) → state table j ≢ empty
+    → row-of (grant R shadow table s .table) j ≡ row-of table j
 unfolding grant-at
-grant-keeps R shadow table s k j in-row held =
-    by-grant R shadow table s (λ acted. column k (acted .table) j ≡ column k table j) (λ full. refl) (λ i row nowhere. refl)
+grant-keeps R shadow table s j held =
+    by-grant R shadow table s (λ acted. row-of (acted .table) j ≡ row-of table j) (λ full. refl) (λ i row nowhere. refl)
     (λ i p row at.
     let l : Lowest (is-empty table) (rows table) 0 i = empty-row-some table i row in
-    column-put-row-other table i p (counted s) live 0 (below-all l) k j in-row
-    (λ same. held (ap (state table) same ∙ eqb-true (state table i) empty (l .passes))))
+    let new : Row = granted-row p (counted s) in
+    let other : j ≢ i = λ same. held (ap (state table) same ∙ eqb-true (state table i) empty (l .passes)) in
+    same-row (put-row table i new) table j (λ k in-row. column-put-row-other table i new (below-all l) k j in-row other))

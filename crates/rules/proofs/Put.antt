@@ -1,11 +1,12 @@
 -- The laws of `put` and `fill`: the length stays, what is put stands in its place, and all else stands as it did. Assumes nothing.
-use Prim.Native.Nat.{ℕ, _+_, _-_, _≤_, _<_, min, zero-le}
+use Prim.Native.Nat.{ℕ, suc, _+_, _-_, _≤_, _<_, min, zero-le}
 use native.Mathlib.Nat.{add-zero}
+use native.Mathlib.Numerals.{add-one}
 use native.Mathlib.Omega.{arith}
 use mathlib.Core.Path.{_≡_, refl, sym, ap, subst, _∙_}
-use mathlib.Core.List.{List, [], _++_, append-assoc, append-nil}
+use mathlib.Core.List.{List, [], _∷_, _++_, append-assoc, append-nil}
 use lib.ListN.{length, getD, take, drop, replicate, set, length-append, length-drop, length-replicate, length-set, take-append-drop, getD-replicate, List·getD-append}
-use lib.Seq.{length-take-le, getD-append-add, getD-take, getD-drop, take-append-seam, drop-append-add, drop-drop, drop-length, sets, sets-eq}
+use lib.Seq.{length-take-le, take-suc, take-all, getD-append-add, getD-take, getD-drop, take-append-seam, drop-append-add, drop-drop, drop-length, sets, sets-eq}
 use borrow.Author.Fill.{fill-none, fill-more}
 use Rattle.rules.specs.Put.{put, fill}
 use Rattle.rules.proofs.Tests.{by-order}
@@ -26,6 +27,32 @@ length-put whole at part room =
 pub put-sets : (whole : List ℕ) (at : ℕ) (part : List ℕ) → at + length part ≤ length whole → put whole at part ≡ sets whole at part
 unfolding put
 put-sets whole at part room = sym (append-assoc (take at whole) part (drop (at + length part) whole)) ∙ sym (sets-eq part whole at room)
+
+-- a part put store by store: nothing yet, one number more, all
+pub put-start : (whole : List ℕ) (at : ℕ) (part : List ℕ) → whole ≡ put whole at (take 0 part)
+put-start whole at part = sym (put-nothing whole at)
+
+store-last : (part whole : List ℕ) (at v : ℕ) → sets whole at (part ++ (v ∷ [])) ≡ set (sets whole at part) (at + length part) v
+store-last [] whole at v = ap (λ n. set whole n v) (sym (add-zero at))
+store-last (w ∷ part) whole at v =
+    let further : suc at + length part ≡ at + length (w ∷ part) = omega arith in
+    store-last part (set whole at w) (suc at) v ∙ ap (λ n. set (sets (set whole at w) (suc at) part) n v) further
+
+pub put-one-more : (whole : List ℕ) (at : ℕ) (part : List ℕ) (k : ℕ) → at + length part ≤ length whole → k < length part
+    → set (put whole at (take k part)) (at + k) (getD part k 0) ≡ put whole at (take (k + 1) part)
+put-one-more whole at part k room below =
+    let v : ℕ = getD part k 0 in
+    let so-far : length (take k part) ≡ k = length-take-le k part (omega arith) in
+    let longer : length (take k part ++ (v ∷ [])) ≡ length (take k part) + 1 = length-append (take k part) (v ∷ []) in
+    ap (λ l. set l (at + k) v) (put-sets whole at (take k part) (omega arith))
+    ∙ ap (λ n. set (sets whole at (take k part)) (at + n) v) (sym so-far)
+    ∙ sym (store-last (take k part) whole at v)
+    ∙ sym (put-sets whole at (take k part ++ (v ∷ [])) (omega arith))
+    ∙ ap (put whole at) (sym (take-suc part k 0 below))
+    ∙ ap (λ n. put whole at (take n part)) (sym (add-one k))
+
+pub put-all : (whole : List ℕ) (at : ℕ) (part : List ℕ) (n : ℕ) → length part ≤ n → put whole at (take n part) ≡ put whole at part
+put-all whole at part n all = ap (put whole at) (take-all n part all)
 
 -- a part that was lent, once it is back
 pub put-lent : (whole : List ℕ) (at n : ℕ) (part : List ℕ) → length part ≡ n → take at whole ++ (part ++ drop n (drop at whole)) ≡ put whole at part

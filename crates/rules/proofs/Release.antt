@@ -9,20 +9,24 @@ use mathlib.Core.Path.{_≡_, refl, sym, ap, ap₂, subst, _∙_}
 use mathlib.Core.Logic.{_≢_}
 use mathlib.Core.Bool.{true, false, _&&_, true≢false, and-eq-true-iff}
 use mathlib.Core.Option.{none, some, Option·none-ne-some, Option·some-injective}
-use mathlib.Core.List.{List, [], _∷_}
+use mathlib.Core.List.{List}
 use lib.ListN.{length, getD}
 use lib.Dec.{eqb}
 use borrow.Author.Tests.{eqb-true, eq-eqb, ne-eqb, lt-ltb, le-ltb}
 use Rattle.rules.specs.declared.Answer.the-variants.{Done, NotHeld, Released}
-use Rattle.rules.specs.Limits.{granule, redzone-byte, released-byte, row-numbers, most-redzone, empty, live, quarantined}
+use Rattle.rules.specs.Limits.{granule, size-column, state-column, turn-column, row-numbers, most-redzone}
+use Rattle.rules.specs.Limits.{redzone-byte, released-byte, live, quarantined}
 use Rattle.rules.specs.Lowest.{total}
-use Rattle.rules.specs.Table.{rows, column, start, size, state, turn, is-quarantined, put-row, lessened}
+use Rattle.rules.specs.Table.{rows, column, start, size, state, turn, is-quarantined}
+use Rattle.rules.specs.Table.{set-number, zero-row, put-row, lessened}
 use Rattle.rules.specs.Grant.{Acted, unchanged, granules}
 use Rattle.rules.specs.Release.{starts-at, row-at, if-quarantined, in-quarantine, weight, weights, older, oldest, oldest-zero, oldest-here, oldest-other, Pool, paint-row, evict-row, evict-oldest, and-one-more, settle-in, settle, quarantine-row, release-row, release}
 use Rattle.rules.proofs.Tests.{by-found, by-order, by-test, if-false, if-true}
 use Rattle.rules.proofs.Lowest.{Lowest, lowest-some, lowest-none, below-all, total-change, le-total, total-above, total-most}
 use Rattle.rules.proofs.Put.{length-fill, fill-in, fill-before, fill-after}
-use Rattle.rules.proofs.Table.{rows-same, length-put-row, column-put-row, column-put-row-other, length-lessened, column-lessened, turn-lessened}
+use Rattle.rules.proofs.Table.{length-set-number, column-set-number, column-set-number-other, column-set-number-elsewhere}
+use Rattle.rules.proofs.Table.{rows-same, length-put-row, column-put-row, column-put-row-other, zero-row-zero}
+use Rattle.rules.proofs.Table.{length-lessened, column-lessened, turn-lessened}
 use Rattle.rules.proofs.Grant.{SameLengths}
 
 -- ---- the oldest
@@ -149,18 +153,12 @@ pub oldest-lessened : (table : List ℕ) (n : ℕ) → n < rows table → oldest
 oldest-lessened table n below =
     oldest-same (lessened table n) (lessened table (suc n)) n
     (λ j b. (
-      column-lessened table n 2 j (omega arith) ∙ sym (column-lessened table (suc n) 2 j (omega arith)),
+      column-lessened table n state-column j (omega arith) (omega arith)
+          ∙ sym (column-lessened table (suc n) state-column j (omega arith) (omega arith)),
       turn-lessened table n j (omega arith) b ∙ sym (turn-lessened table (suc n) j below (omega arith)),
     ))
 
 -- ---- an eviction
-
-four-zeros : (k : ℕ) → getD {A = ℕ} (0 ∷ 0 ∷ 0 ∷ 0 ∷ []) k 0 ≡ 0
-four-zeros zero = refl
-four-zeros (suc zero) = refl
-four-zeros (suc (suc zero)) = refl
-four-zeros (suc (suc (suc zero))) = refl
-four-zeros (suc (suc (suc (suc k)))) = refl
 
 -- a number for a quarantined row, and for another
 pub if-quarantined-yes : (table : List ℕ) (f : ℕ → ℕ) (i : ℕ) → is-quarantined table i ≡ true → if-quarantined table f i ≡ f i
@@ -194,44 +192,50 @@ sum-change f table other i below same-rows same =
     ∙ ap (λ n. total (part-quarantined f other) n + part-quarantined f table i) same-rows
 
 module _ (pool : Pool) (i : ℕ) (below : i < rows (pool .table)) where
+  emptied : List ℕ
+  emptied = put-row (pool .table) i zero-row
+
+  emptied-length : length emptied ≡ length (pool .table)
+  unfolding emptied
+  emptied-length = length-put-row (pool .table) i zero-row below
+
+  emptied-rows : rows (pool .table) ≤ rows emptied
+  emptied-rows = le-of-eq (sym (rows-same emptied (pool .table) emptied-length))
+
   pub evict-row-length : length (evict-row pool i .table) ≡ length (pool .table)
-  unfolding evict-row
-  evict-row-length =
-      length-lessened (put-row (pool .table) i 0 0 empty 0) (rows (pool .table))
-      ∙ length-put-row (pool .table) i 0 0 empty 0 below
+  unfolding evict-row emptied
+  evict-row-length = length-lessened emptied (rows (pool .table)) ∙ emptied-length
 
   pub evict-row-rows : rows (evict-row pool i .table) ≡ rows (pool .table)
   evict-row-rows = rows-same (evict-row pool i .table) (pool .table) evict-row-length
 
-  -- the evicted row is emptied
-  pub evict-row-empty : (k : ℕ) → k < 3 → column k (evict-row pool i .table) i ≡ 0
-  unfolding evict-row
+  -- the evicted row is emptied: each of its numbers is 0
+  pub evict-row-empty : (k : ℕ) → k < row-numbers → column k (evict-row pool i .table) i ≡ 0
+  unfolding evict-row emptied
   evict-row-empty k in-row =
-      column-lessened (put-row (pool .table) i 0 0 empty 0) (rows (pool .table)) k i in-row
-      ∙ column-put-row (pool .table) i 0 0 empty 0 below k (omega arith)
-      ∙ four-zeros k
+      let zero· : column k emptied i ≡ 0 = column-put-row (pool .table) i zero-row below k in-row ∙ zero-row-zero k in
+      elim (ℕ-discrete k turn-column) [
+        | yes is ↦
+            ap (λ l. column l (lessened emptied (rows (pool .table))) i) is
+            ∙ turn-lessened emptied (rows (pool .table)) i emptied-rows below
+            ∙ ap (λ t. t - 1) (ap (λ l. column l emptied i) (sym is) ∙ zero·)
+        | no other ↦ column-lessened emptied (rows (pool .table)) k i in-row other ∙ zero·
+      ]
 
-  -- every other row keeps its start, size and state
-  pub evict-row-other : (k j : ℕ) → k < 3 → j ≢ i → column k (evict-row pool i .table) j ≡ column k (pool .table) j
-  unfolding evict-row
-  evict-row-other k j in-row other =
-      column-lessened (put-row (pool .table) i 0 0 empty 0) (rows (pool .table)) k j in-row
-      ∙ column-put-row-other (pool .table) i 0 0 empty 0 below k j (omega arith) other
+  -- every other row keeps its numbers, the turn apart
+  pub evict-row-other : (k j : ℕ) → k < row-numbers → k ≢ turn-column → j ≢ i
+      → column k (evict-row pool i .table) j ≡ column k (pool .table) j
+  unfolding evict-row emptied
+  evict-row-other k j in-row other other-row =
+      column-lessened emptied (rows (pool .table)) k j in-row other
+      ∙ column-put-row-other (pool .table) i zero-row below k j in-row other-row
 
   -- and its turn is lessened
   pub evict-row-turn : (j : ℕ) → j < rows (pool .table) → j ≢ i → turn (evict-row pool i .table) j ≡ turn (pool .table) j - 1
-  unfolding evict-row
+  unfolding evict-row emptied
   evict-row-turn j in-rows other =
-      turn-lessened (put-row (pool .table) i 0 0 empty 0) (rows (pool .table)) j
-      (le-of-eq (sym (rows-same (put-row (pool .table) i 0 0 empty 0) (pool .table) (length-put-row (pool .table) i 0 0 empty 0 below)))) in-rows
-      ∙ ap (λ t. t - 1) (column-put-row-other (pool .table) i 0 0 empty 0 below 3 j (omega arith) other)
-
-  pub evict-row-own-turn : turn (evict-row pool i .table) i ≡ 0
-  unfolding evict-row
-  evict-row-own-turn =
-      turn-lessened (put-row (pool .table) i 0 0 empty 0) (rows (pool .table)) i
-      (le-of-eq (sym (rows-same (put-row (pool .table) i 0 0 empty 0) (pool .table) (length-put-row (pool .table) i 0 0 empty 0 below)))) below
-      ∙ ap (λ t. t - 1) (column-put-row (pool .table) i 0 0 empty 0 below 3 (omega arith))
+      turn-lessened emptied (rows (pool .table)) j emptied-rows in-rows
+      ∙ ap (λ t. t - 1) (column-put-row-other (pool .table) i zero-row below turn-column j (omega arith) other)
 
   -- of what is summed over the quarantined rows, its own part is gone
   pub evict-row-sum : (f : ℕ → ℕ) → is-quarantined (pool .table) i ≡ true
@@ -241,10 +245,14 @@ module _ (pool : Pool) (i : ℕ) (below : i < rows (pool .table)) where
       let other : List ℕ = evict-row pool i .table in
       let change : sum-quarantined f table + part-quarantined f other i ≡ sum-quarantined f other + part-quarantined f table i =
       sum-change f table other i below (sym evict-row-rows)
-      (λ j other·. (sym (evict-row-other 2 j (omega arith) other·), sym (evict-row-other 1 j (omega arith) other·))) in
+      (λ j other·. (
+        sym (evict-row-other state-column j (omega arith) (omega arith) other·),
+        sym (evict-row-other size-column j (omega arith) (omega arith) other·),
+      )) in
       let own : part-quarantined f table i ≡ f (size table i) = if-quarantined-yes table (λ j. f (size table j)) i held in
       let none· : part-quarantined f other i ≡ 0 =
-      if-quarantined-no other (λ j. f (size other j)) i (ne-eqb (state other i) quarantined (λ e. absurd (omega (arith, evict-row-empty 2 (omega arith))))) in
+      if-quarantined-no other (λ j. f (size other j)) i
+      (ne-eqb (state other i) quarantined (omega (arith, evict-row-empty state-column (omega arith)))) in
       omega arith
 
   -- one fewer is quarantined
@@ -417,25 +425,48 @@ none-heavier R Q pool i below held = omega (arith, weights-of R (settle R Q pool
 -- ---- a row becomes quarantined
 
 module _ (pool : Pool) (i : ℕ) (below : i < rows (pool .table)) where
-  pub quarantine-row-lengths : (length (quarantine-row pool i .shadow) ≡ length (pool .shadow)) × (length (quarantine-row pool i .table) ≡ length (pool .table))
-  unfolding quarantine-row
-  quarantine-row-lengths = (
-    paint-row-length pool i released-byte,
-    length-put-row (pool .table) i (start (pool .table) i) (size (pool .table) i) quarantined (in-quarantine (pool .table) + 1) below,
-  )
+  -- its state is set, then its turn
+  held-table : List ℕ
+  held-table = set-number state-column (pool .table) i quarantined
 
-  -- its numbers
-  pub quarantine-row-own : (k : ℕ) → k < row-numbers
-      → column k (quarantine-row pool i .table) i ≡ getD (start (pool .table) i ∷ size (pool .table) i ∷ quarantined ∷ (in-quarantine (pool .table) + 1) ∷ []) k 0
-  unfolding quarantine-row
-  quarantine-row-own k in-row =
-      column-put-row (pool .table) i (start (pool .table) i) (size (pool .table) i) quarantined (in-quarantine (pool .table) + 1) below k in-row
+  held-length : length held-table ≡ length (pool .table)
+  unfolding held-table
+  held-length = length-set-number state-column (pool .table) i quarantined
 
-  -- every other row stands as it did
+  abbrev own-turn : ℕ
+  own-turn = in-quarantine (pool .table) + 1
+
+  pub quarantine-row-lengths : (length (quarantine-row pool i .shadow) ≡ length (pool .shadow))
+      × (length (quarantine-row pool i .table) ≡ length (pool .table))
+  unfolding quarantine-row held-table
+  quarantine-row-lengths =
+      (paint-row-length pool i released-byte, length-set-number turn-column held-table i own-turn ∙ held-length)
+
+  pub quarantine-row-state : state (quarantine-row pool i .table) i ≡ quarantined
+  unfolding quarantine-row held-table
+  quarantine-row-state =
+      column-set-number-other turn-column held-table i own-turn state-column i (omega arith) (omega arith) (omega arith)
+      ∙ column-set-number state-column (pool .table) i quarantined (omega arith) below
+
+  pub quarantine-row-turn : turn (quarantine-row pool i .table) i ≡ own-turn
+  unfolding quarantine-row held-table
+  quarantine-row-turn =
+      column-set-number turn-column held-table i own-turn (omega arith) (omega (arith, rows-same held-table (pool .table) held-length))
+
+  -- its other numbers stand as they did
+  pub quarantine-row-own : (k : ℕ) → k < row-numbers → k ≢ state-column → k ≢ turn-column
+      → column k (quarantine-row pool i .table) i ≡ column k (pool .table) i
+  unfolding quarantine-row held-table
+  quarantine-row-own k in-row no-state no-turn =
+      column-set-number-other turn-column held-table i own-turn k i (omega arith) in-row no-turn
+      ∙ column-set-number-other state-column (pool .table) i quarantined k i (omega arith) in-row no-state
+
+  -- and so does every other row
   pub quarantine-row-other : (k j : ℕ) → k < row-numbers → j ≢ i → column k (quarantine-row pool i .table) j ≡ column k (pool .table) j
-  unfolding quarantine-row
+  unfolding quarantine-row held-table
   quarantine-row-other k j in-row other =
-      column-put-row-other (pool .table) i (start (pool .table) i) (size (pool .table) i) quarantined (in-quarantine (pool .table) + 1) below k j in-row other
+      column-set-number-elsewhere turn-column held-table i own-turn k j (omega arith) in-row other
+      ∙ column-set-number-elsewhere state-column (pool .table) i quarantined k j (omega arith) in-row other
 
   -- of what is summed over the quarantined rows, its own part is added where it was not quarantined
   pub quarantine-row-sum : (f : ℕ → ℕ) → is-quarantined (pool .table) i ≡ false
@@ -445,10 +476,14 @@ module _ (pool : Pool) (i : ℕ) (below : i < rows (pool .table)) where
       let held : List ℕ = quarantine-row pool i .table in
       let change : sum-quarantined f table + part-quarantined f held i ≡ sum-quarantined f held + part-quarantined f table i =
       sum-change f table held i below (rows-same table held (sym (quarantine-row-lengths .1)))
-      (λ j other·. (sym (quarantine-row-other 2 j (omega arith) other·), sym (quarantine-row-other 1 j (omega arith) other·))) in
+      (λ j other·. (
+        sym (quarantine-row-other state-column j (omega arith) other·),
+        sym (quarantine-row-other size-column j (omega arith) other·),
+      )) in
       let own : part-quarantined f held i ≡ f (size held i) =
-      if-quarantined-yes held (λ j. f (size held j)) i (eq-eqb (state held i) quarantined (quarantine-row-own 2 (omega arith))) in
-      let size-kept : f (size held i) ≡ f (size table i) = ap f (quarantine-row-own 1 (omega arith)) in
+      if-quarantined-yes held (λ j. f (size held j)) i (eq-eqb (state held i) quarantined quarantine-row-state) in
+      let size-kept : f (size held i) ≡ f (size table i) =
+      ap f (quarantine-row-own size-column (omega arith) (omega arith) (omega arith)) in
       let none· : part-quarantined f table i ≡ 0 = if-quarantined-no table (λ j. f (size table j)) i other in
       omega arith
 
@@ -460,11 +495,13 @@ module _ (pool : Pool) (i : ℕ) (below : i < rows (pool .table)) where
   -- what is quarantined besides it was so before, and its turn is as it was
   quarantined-before : (j : ℕ) → j ≢ i → is-quarantined (quarantine-row pool i .table) j ≡ true
       → (is-quarantined (pool .table) j ≡ true) × (turn (quarantine-row pool i .table) j ≡ turn (pool .table) j)
-  quarantined-before j other held =
-      (ap (λ s. eqb s quarantined) (sym (quarantine-row-other 2 j (omega arith) other)) ∙ held, quarantine-row-other 3 j (omega arith) other)
+  quarantined-before j other held = (
+    ap (λ s. eqb s quarantined) (sym (quarantine-row-other state-column j (omega arith) other)) ∙ held,
+    quarantine-row-other turn-column j (omega arith) other,
+  )
 
   own-held : is-quarantined (quarantine-row pool i .table) i ≡ true
-  own-held = eq-eqb (state (quarantine-row pool i .table) i) quarantined (quarantine-row-own 2 (omega arith))
+  own-held = eq-eqb (state (quarantine-row pool i .table) i) quarantined quarantine-row-state
 
   -- by the row: itself, or another
   each-row : (P : ℕ → Type 0) → P i → ((j : ℕ) → j ≢ i → P j) → (j : ℕ) → P j
@@ -518,11 +555,11 @@ module _ (pool : Pool) (i : ℕ) (below : i < rows (pool .table)) where
         → oldest (quarantine-row pool i .table) (rows (pool .table)) ≡ some k
     quarantine-row-younger apart lower strict =
         let held : List ℕ = quarantine-row pool i .table in
-        let kept· : turn held k ≡ turn (pool .table) k = quarantine-row-other 3 k (omega arith) apart in
+        let kept· : turn held k ≡ turn (pool .table) k = quarantine-row-other turn-column k (omega arith) apart in
         oldest-is held (rows (pool .table)) k
         (record {
           below = o .below;
-          held = ap (λ s. eqb s quarantined) (quarantine-row-other 2 k (omega arith) apart) ∙ o .held;
+          held = ap (λ s. eqb s quarantined) (quarantine-row-other state-column k (omega arith) apart) ∙ o .held;
           least =
               each-row (λ j. j < rows (pool .table) → is-quarantined held j ≡ true → turn held k ≤ turn held j) (λ b q. omega arith)
               (λ j other b q. omega (arith, quarantined-before j other q .1, o .least j b (quarantined-before j other q .0)));

@@ -6,6 +6,7 @@ use mathlib.Core.List.{List, [], _∷_, _++_}
 use lib.ListN.{length, replicate}
 use Rattle.rules.specs.declared.Answer.{Answer}
 use Rattle.rules.specs.declared.Answer.the-variants.{Done, NoRow, NoPlace}
+use Rattle.rules.specs.declared.Row.{Row}
 use Rattle.rules.specs.Limits.{granule, redzone-byte, live}
 use Rattle.rules.specs.Lowest.{lowest, all-equal, AllEqual}
 use Rattle.rules.specs.Put.{put}
@@ -68,12 +69,16 @@ granted s = replicate (s / granule) 0 ++ last-granule (s % granule)
 unfoldable pub empty-row : List ℕ → Option ℕ
 empty-row table = lowest (is-empty table) (rows table) 0
 
+-- the row of a block of s bytes, granted at granule p
+abbrev pub granted-row : ℕ → ℕ → Row
+granted-row p s = record { start = p; size = s; state = live; turn = 0 }
+
 -- a grant into row i at granule p
 unfoldable pub grant-at : List ℕ → List ℕ → ℕ → ℕ → ℕ → Acted
 grant-at shadow table s i p = record {
   answer = Done (granule * p);
   shadow = put shadow p (granted s);
-  table = put-row table i p s live 0;
+  table = put-row table i (granted-row p s);
 }
 
 -- refused 05 where no row is empty, then 06 where no start exists

@@ -19,12 +19,25 @@ least-granules = 8
 abbrev pub most-granules : ℕ
 most-granules = 65_536
 
--- the rows of the table, and the numbers in a row: start granule, size in bytes, state, turn
+-- the rows of the table
 abbrev pub least-rows : ℕ
 least-rows = 1
 
 abbrev pub most-rows : ℕ
 most-rows = 1_024
+
+-- the columns of the table, in the paper's order: start granule, size in bytes, state, turn; and the numbers in a row
+abbrev pub start-column : ℕ
+start-column = 0
+
+abbrev pub size-column : ℕ
+size-column = 1
+
+abbrev pub state-column : ℕ
+state-column = 2
+
+abbrev pub turn-column : ℕ
+turn-column = 3
 
 abbrev pub row-numbers : ℕ
 row-numbers = 4
@@ -96,6 +109,10 @@ paper-limits = record {
   «most_granules» = most-granules;
   «least_rows» = least-rows;
   «most_rows» = most-rows;
+  «start_column» = start-column;
+  «size_column» = size-column;
+  «state_column» = state-column;
+  «turn_column» = turn-column;
   «row_numbers» = row-numbers;
   «least_redzone» = least-redzone;
   «most_redzone» = most-redzone;

@@ -9,7 +9,7 @@ use lib.ListN.{replicate}
 use Rattle.rules.specs.Limits.{row-numbers, line-feed}
 use Rattle.rules.specs.Lowest.{lowest, all-equal, total}
 use Rattle.rules.specs.Put.{put, fill}
-use Rattle.rules.specs.Table.{rows, column, put-row, lessened}
+use Rattle.rules.specs.Table.{rows, column, set-number, put-row, lessened}
 use Rattle.rules.specs.Shadow.{leading, inside, shadow-of, addressable, kind, first-bad, judge}
 use Rattle.rules.specs.Answers.{in-numbers, status}
 use Rattle.rules.specs.Grant.{counted, granules, fits, place, last-granule, granted, empty-row, grant-at, grant}
@@ -90,7 +90,7 @@ state-after = state-of (fresh 16 4 2 16) shadow-after table-after
 -- every definition that a text goes through: to unfold this one is to unfold them all
 unfoldable pub by-the-rules : State Pool → List ℕ → Ran Pool
 unfolding bytes text opened open-with table-length status in-numbers run step hold finish act-line act lengthened emptied access of-verdict
-    judge first-bad kind addressable shadow-of inside leading lowest all-equal total put fill rows column put-row lessened
+    judge first-bad kind addressable shadow-of inside leading lowest all-equal total put fill rows column set-number put-row lessened
     counted granules fits place last-granule granted empty-row grant-at grant
     starts-at row-at if-quarantined in-quarantine weight weights older oldest paint-row evict-row evict-oldest settle-in settle quarantine-row release-row release
     hex-digit number-on number with-zero frame frame-of-digits frame-of-line digit digits answer-line

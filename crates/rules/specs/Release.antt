@@ -6,10 +6,11 @@ use mathlib.Core.Option.{Option, none, some}
 use mathlib.Core.List.{List}
 use lib.Dec.{eqb, ltb}
 use Rattle.rules.specs.declared.Answer.the-variants.{Done, NotHeld, Released}
-use Rattle.rules.specs.Limits.{granule, redzone-byte, released-byte, empty, live, quarantined}
+use Rattle.rules.specs.Limits.{granule, state-column, turn-column, redzone-byte, released-byte, live, quarantined}
 use Rattle.rules.specs.Lowest.{lowest, total}
 use Rattle.rules.specs.Put.{fill}
-use Rattle.rules.specs.Table.{rows, start, size, state, turn, is-quarantined, put-row, lessened}
+use Rattle.rules.specs.Table.{rows, start, size, state, turn, is-quarantined}
+use Rattle.rules.specs.Table.{set-number, zero-row, put-row, lessened}
 use Rattle.rules.specs.Grant.{Acted, unchanged, granules}
 
 -- row i starts at address a: 8 x start as a whole number, which does not wrap
@@ -71,7 +72,7 @@ paint-row pool i v = fill (pool .shadow) (start (pool .table) i) (granules (size
 unfoldable pub evict-row : Pool → ℕ → Pool
 evict-row pool i = record {
   shadow = paint-row pool i redzone-byte;
-  table = lessened (put-row (pool .table) i 0 0 empty 0) (rows (pool .table));
+  table = lessened (put-row (pool .table) i zero-row) (rows (pool .table));
 }
 
 -- the one with the lowest turn is evicted, where one is quarantined
@@ -99,11 +100,13 @@ settle-in (suc left) R Q pool =
 unfoldable pub settle : ℕ → ℕ → Pool → Settled
 settle R Q pool = settle-in (in-quarantine (pool .table)) R Q pool
 
--- row i becomes quarantined, its granules fd, its turn the number of quarantined rows, itself counted
+-- row i becomes quarantined, its granules fd, its turn the number of quarantined rows, itself counted; its other numbers stay
 unfoldable pub quarantine-row : Pool → ℕ → Pool
 quarantine-row pool i = record {
   shadow = paint-row pool i released-byte;
-  table = put-row (pool .table) i (start (pool .table) i) (size (pool .table) i) quarantined (in-quarantine (pool .table) + 1);
+  table =
+      let held : List ℕ = set-number state-column (pool .table) i quarantined in
+      set-number turn-column held i (in-quarantine (pool .table) + 1);
 }
 
 -- the value is the number evicted

@@ -3,6 +3,10 @@
 // does not cross to C; each enum has its numbers by a definition of `specs/`.
 pub mod limits;
 
+use limits::EMPTY;
+ghost use mathlib.Core.Path.{_≡_};
+ghost use Rattle.rules.specs.Table.{numbers, zero-row};
+
 // A session: passed by value and handed back, or lent and changed in place. A closed one is all zeros.
 #[repr(C)]
 pub struct Session {
@@ -16,6 +20,35 @@ pub struct Session {
     // the unfinished line's length, where 19 stands for 19 or more, and its first 18 bytes
     pub unfinished: usize,
     pub line: [u8; 18],
+}
+
+// A row of the table, whole.
+pub struct Row {
+    // in granules
+    pub start: u32,
+    // in bytes
+    pub size: u32,
+    pub state: u32,
+    pub turn: u32,
+}
+
+// Its numbers, in the columns' order.
+pub fn numbers(row: Row) -> [u32; 4]
+    ensures { λ r. ⌜ r ≡ numbers row ⌝ }
+{
+    [row.start, row.size, row.state, row.turn]
+}
+
+// The row of an empty table, and of a block that was evicted.
+pub fn zero_row() -> Row
+    ensures { λ r. ⌜ r ≡ zero-row ⌝ }
+{
+    Row {
+        start: 0,
+        size: 0,
+        state: EMPTY,
+        turn: 0,
+    }
 }
 
 // An answer, a case for each row of the paper's table.

@@ -11,10 +11,19 @@ pub const LEAST_GRANULES: usize = 8;
 
 pub const MOST_GRANULES: usize = 65_536;
 
-// The rows of the table, and the numbers in a row.
+// The rows of the table.
 pub const LEAST_ROWS: usize = 1;
 
 pub const MOST_ROWS: usize = 1_024;
+
+// The columns of the table, in the paper's order, and the numbers in a row.
+pub const START_COLUMN: usize = 0;
+
+pub const SIZE_COLUMN: usize = 1;
+
+pub const STATE_COLUMN: usize = 2;
+
+pub const TURN_COLUMN: usize = 3;
 
 pub const ROW_NUMBERS: usize = 4;
 
@@ -67,6 +76,10 @@ pub struct Limits {
     pub most_granules: usize,
     pub least_rows: usize,
     pub most_rows: usize,
+    pub start_column: usize,
+    pub size_column: usize,
+    pub state_column: usize,
+    pub turn_column: usize,
     pub row_numbers: usize,
     pub least_redzone: usize,
     pub most_redzone: usize,
@@ -96,6 +109,10 @@ pub fn of_the_paper() -> Limits
         most_granules: MOST_GRANULES,
         least_rows: LEAST_ROWS,
         most_rows: MOST_ROWS,
+        start_column: START_COLUMN,
+        size_column: SIZE_COLUMN,
+        state_column: STATE_COLUMN,
+        turn_column: TURN_COLUMN,
         row_numbers: ROW_NUMBERS,
         least_redzone: LEAST_REDZONE,
         most_redzone: MOST_REDZONE,

@@ -1,5 +1,5 @@
 -- `evictions::evict` meets its contract: the row is painted over, emptied, and the turns are lessened. Assumes nothing.
-use mathlib.Core.Path.{ap₂, _∙_}
+use mathlib.Core.Path.{ap, ap₂, _∙_}
 use denote.Ref.{now}
 use borrow.Author.Needs.{needs}
 use Rattle.rules.specs.Limits.{redzone-byte}
@@ -21,6 +21,9 @@ number-requires-2 c κs = search needs
 row-requires : tie.Need-row-requires
 row-requires c κs = search needs
 
+zero-row-requires : tie.Need-zero-row-requires
+zero-row-requires c κs = search needs
+
 put-row-requires : tie.Need-put-row-requires
 put-row-requires c κs = search needs
 
@@ -38,7 +41,8 @@ unfolding evict-row paint-row
 returns c =
     let less = c .before .before in
     let put = less .before .before .before .before in
-    let painted = put .before .before .before .before in
+    let zeroed = put .before in
+    let painted = zeroed .before .before .before .before in
     let sized = painted .before .before in
     let started = sized .before .before in
     let start = started .before .before .before .before in
@@ -47,7 +51,7 @@ returns c =
     let row = start .args .row in
     let painted-over =
     painted .row .ensures ∙ ap₂ (λ from size. fill shadow from (granules size) redzone-byte) (started .number .ensures) (sized .number2 .ensures) in
-    let emptied = put .put-row .ensures in
+    let emptied = put .put-row .ensures ∙ ap (put-row table row) (zeroed .zero-row .ensures) in
     let as-many = rows-same (put .put-row .last .0) table (put .put-row .kept .0) in
     let turns = less .lessen .ensures .table ∙ ap₂ lessened emptied as-many in
     record { pool-after = ap₂ pool painted-over turns; oldest-next = less .lessen .ensures .oldest-next }
@@ -59,6 +63,7 @@ evict-spec =
     number-requires
     number-requires-2
     row-requires
+    zero-row-requires
     put-row-requires
     lessen-requires
     same-length

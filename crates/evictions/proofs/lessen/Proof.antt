@@ -1,16 +1,16 @@
 -- `evictions::lessen` meets its contract. The invariant: the turns of the rows before `row` are lessened, and `oldest` is the
 -- oldest of them. The measure is what is left of the rows. Assumes nothing.
-use Prim.Native.Nat.{ℕ, suc, _+_, _-_, _*_, _/_, _≤_, _<_}
+use Prim.Native.Nat.{ℕ, suc, _+_, _-_, _/_, _≤_, _<_}
 use native.Mathlib.Nat.{le-refl}
 use native.Mathlib.Numerals.{add-one}
 use native.Mathlib.Omega.{arith}
 use mathlib.Core.Path.{_≡_, refl, sym, ap, ap₂, _∙_}
 use mathlib.Core.List.{List}
-use lib.ListN.{length, set}
+use lib.ListN.{length}
 use denote.Ref.{now}
-use Rattle.rules.specs.Limits.{row-numbers}
+use Rattle.rules.specs.Limits.{turn-column, row-numbers}
 use Rattle.rules.specs.Lowest.{answered}
-use Rattle.rules.specs.Table.{turn, lessened, lessened-zero, lessened-suc}
+use Rattle.rules.specs.Table.{turn, set-number, lessened, lessened-zero, lessened-suc}
 use Rattle.rules.specs.Table as table
 use Rattle.rules.specs.Release as release
 use Rattle.rules.proofs.Table.{rows-same, below-same, length-lessened, turn-kept}
@@ -74,7 +74,7 @@ stored c =
     ∙ ap (λ t. t - 1)
     (turned .before .number .ensures ∙ ap (λ t. turn t row) (loop .inv .1) ∙ turn-kept (table₀ c) row row (le-refl row)) in
     c .set-number .ensures
-    ∙ ap₂ (λ t v. set t (row-numbers * row + 3) v) (loop .inv .1) as-turn
+    ∙ ap₂ (λ t v. set-number turn-column t row v) (loop .inv .1) as-turn
     ∙ sym (lessened-suc (table₀ c) row)
 
 oldest-with-requires : tie.Need-oldest-with-requires Inv-loop μ-loop

@@ -7,11 +7,11 @@ use mathlib.Core.Option.{some}
 use denote.Ref.{now}
 use borrow.Author.Needs.{needs}
 use Rattle.rules.specs.declared.Answer.the-variants.{Done}
-use Rattle.rules.specs.Limits.{granule, live}
+use Rattle.rules.specs.Limits.{granule}
 use Rattle.rules.specs.Lowest.{answered}
 use Rattle.rules.specs.Put.{put}
 use Rattle.rules.specs.Table.{put-row}
-use Rattle.rules.specs.Grant.{acted, counted, granules, granted, place, empty-row, grant-at}
+use Rattle.rules.specs.Grant.{acted, counted, granules, granted, place, empty-row, granted-row, grant-at}
 use Rattle.rules.proofs.Lowest.{below-all, answered-one, answered-nothing}
 use Rattle.rules.proofs.Grant.{length-granted, place-inside, place-fits, empty-row-some, grant-no-row, grant-no-place, grant-done}
 use Rattle.rules.proofs.Calls.{lent-granules, lent-redzone}
@@ -128,19 +128,22 @@ grant-requires c κs =
       ap granules (counted-is (Asked found)),
     )
 
-cast-put-row : tie.Need-cast-put-row
-cast-put-row c = record { fits = omega (arith, address-fits (c .before .before .before .before .before .before)) }
+cast-granted-row : tie.Need-cast-granted-row
+cast-granted-row c = record { fits = omega (arith, address-fits (c .before .before .before .before .before .before)) }
+
+granted-row-requires : tie.Need-granted-row-requires
+granted-row-requires c κs = tt
 
 put-row-requires : tie.Need-put-row-requires
 put-row-requires c κs =
-    let found = c .before .before .before .before .before .before in
+    let found = c .before .before .before .before .before .before .before in
     below-all (empty-row-some (now (begin found .args .table)) (Row (Asked found) .row .given .0 .0) (row-is (Row (Asked found))))
 
-mul-t21 : tie.Need-mul-t21
-mul-t21 c = record { fits = omega (arith, address-fits (c .before .before .before .before .before .before .before .before .before)) }
+mul-t22 : tie.Need-mul-t22
+mul-t22 c = record { fits = omega (arith, address-fits (c .before .before .before .before .before .before .before .before .before .before)) }
 
-cast-t20 : tie.Need-cast-t20
-cast-t20 c = record { fits = address-fits (c .before .before .before .before .before .before .before .before .before) }
+cast-t21 : tie.Need-cast-t21
+cast-t21 c = record { fits = address-fits (c .before .before .before .before .before .before .before .before .before .before) }
 
 same-length-4 : tie.Need-same-length-4
 same-length-4 c = search needs
@@ -152,7 +155,8 @@ returns-3 : tie.Need-returns-3
 unfolding grant-at
 returns-3 c =
     let stored = c .before .before in
-    let painted = stored .before .before .before .before in
+    let row = stored .before in
+    let painted = row .before .before .before .before in
     let found = painted .before .before .before in
     let start = begin found in
     let shadow = now (start .args .shadow) in
@@ -161,7 +165,8 @@ returns-3 c =
     let p = found .place2 .given .0 .0 in
     ap₂ (acted (Done (granule * p)))
     (painted .grant .ensures ∙ ap (λ s. put shadow p (granted s)) (counted-is (Asked found)))
-    (stored .put-row .ensures ∙ ap (λ s. put-row table i p s live 0) (counted-is (Asked found)))
+    (stored .put-row .ensures
+    ∙ ap (put-row table i) (row .granted-row .ensures ∙ ap (granted-row p) (counted-is (Asked found))))
     ∙ sym (grant-done (start .args .session .redzone) shadow table (start .args .size) i p (row-is (Row (Asked found))) (place-is found))
 
 pub grant-spec : {M : Type 1} → statement M
@@ -182,10 +187,11 @@ grant-spec =
     same-length-3
     returns-2
     grant-requires
-    cast-put-row
+    cast-granted-row
+    granted-row-requires
     put-row-requires
-    mul-t21
-    cast-t20
+    mul-t22
+    cast-t21
     same-length-4
     same-length-5
     returns-3)

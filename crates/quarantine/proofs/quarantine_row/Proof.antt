@@ -1,16 +1,17 @@
--- `quarantine::quarantine_row` meets its contract: the row is painted and set, its weight is added, and it is set against the
--- oldest before it. Assumes nothing.
+-- `quarantine::quarantine_row` meets its contract: the row is painted, its state and turn are set, its weight is added, and it is set
+-- against the oldest before it. Assumes nothing.
 use Prim.Native.Nat.{ℕ, _+_, _*_, _^_, _≤_, _<_}
 use native.Mathlib.Omega.{arith}
 use mathlib.Core.Path.{_≡_, sym, ap, ap₂, _∙_}
 use mathlib.Core.Bool.{false}
+use lib.ListN.{length}
 use denote.Ref.{now}
 use borrow.Author.Needs.{needs}
 use borrow.Author.Tests.{ne-eqb}
-use Rattle.rules.specs.Limits.{row-numbers, released-byte, quarantined}
+use Rattle.rules.specs.Limits.{size-column, state-column, turn-column, row-numbers, released-byte, quarantined}
 use Rattle.rules.specs.Lowest.{answered}
 use Rattle.rules.specs.Put.{fill}
-use Rattle.rules.specs.Table.{rows, column, size, state, is-quarantined, put-row}
+use Rattle.rules.specs.Table.{rows, column, size, state, is-quarantined, set-number}
 use Rattle.rules.specs.Grant.{granules}
 use Rattle.rules.specs.Release.{weight, weights, oldest, Pool, paint-row, quarantine-row}
 use Rattle.rules.proofs.Lowest.{answered-one}
@@ -51,7 +52,7 @@ add-weight c =
     let start = known .before .before in
     let R = start .args .redzone in
     let table = now (start .args .table) in
-    let fits : (j : ℕ) → size table j < 2 ^ 32 = λ j. omega (arith, known .slice-known2 .given (row-numbers * j + 1)) in
+    let fits : (j : ℕ) → size table j < 2 ^ 32 = λ j. omega (arith, known .slice-known2 .given (row-numbers * j + size-column)) in
     let so-far : start .args .seen .weight ≤ rows table * 2 ^ 33 = omega (arith, start .pre .weight-is, weights-most R table (start .pre .lent .near) fits) in
     let one-more = weighed .weight-of .ensures ∙ ap (weight R) (sized .number2 .ensures) in
     record { fits = weights-fit (rows table) (start .args .row) (start .args .seen .weight) (weighed .weight-of .result) (start .pre .lent) (omega arith) fits so-far one-more }
@@ -59,21 +60,57 @@ add-weight c =
 row-requires : tie.Need-row-requires
 row-requires c κs = search needs
 
-put-row-requires : tie.Need-put-row-requires
-put-row-requires c κs = search needs
+set-number-requires : tie.Need-set-number-requires
+set-number-requires c κs = search needs
+
+set-number-requires-2 : tie.Need-set-number-requires-2
+set-number-requires-2 c κs =
+    let stated = c .before .before .before in
+    let painted = stated .before .before .before .before in
+    let start = painted .before .before .before .before .before .before .before .before .before .before .before in
+    record {
+      below = below-same (now (start .args .table)) (stated .set-number .last .0) (start .args .row) (stated .set-number .kept .0) (start .pre .below);
+      in-row = omega arith;
+    }
+
+-- from the end of the two stores back: the first of them, the painting, the weighing, the size and the start read, the beginning
+abbrev stated : tie.After-set-number2 → tie.After-set-number
+stated c = c .before .before .before .before
+
+abbrev painted : tie.After-set-number2 → tie.After-row
+painted c = stated c .before .before .before .before
+
+abbrev weighed : tie.After-set-number2 → tie.After-weight-of
+weighed c = painted c .before .before .before
+
+abbrev sized : tie.After-set-number2 → tie.After-number2
+sized c = weighed c .before .before
+
+abbrev started : tie.After-set-number2 → tie.After-number
+started c = sized c .before .before
+
+abbrev start : tie.After-set-number2 → tie.Start
+start c = started c .before .before .before .before
+
+abbrev whole : tie.After-set-number2 → Pool
+whole c = pool (now (start c .args .shadow)) (now (start c .args .table))
+
+-- the table is as long as it was
+as-long : (c : tie.After-set-number2) → length (c .set-number2 .last .0) ≡ length (now (start c .args .table))
+as-long c = c .set-number2 .kept .0 ∙ stated c .set-number .kept .0
 
 first-to-leave-requires : tie.Need-first-to-leave-requires
 first-to-leave-requires c κs =
-    let put = c .before .before .before in
-    let start = put .before .before .before .before .before .before .before .before .before .before .before .before .before .before .before in
-    let table = now (start .args .table) in
-    let after = put .put-row .last .0 in
+    let turned = c .before .before .before in
+    let pre = start turned .pre in
+    let table = now (start turned .args .table) in
+    let after = turned .set-number2 .last .0 in
     record {
-      below = below-same table after (start .args .row) (put .put-row .kept .0) (start .pre .below);
+      below = below-same table after (start turned .args .row) (as-long turned) (pre .below);
       other-below =
           λ k is.
-          below-same table after k (put .put-row .kept .0)
-          (oldest-some table (rows table) k (answered-one (oldest table (rows table)) k (sym is ∙ start .pre .oldest-is)) .below);
+          below-same table after k (as-long turned)
+          (oldest-some table (rows table) k (answered-one (oldest table (rows table)) k (sym is ∙ pre .oldest-is)) .below);
     }
 
 same-length : tie.Need-same-length
@@ -83,54 +120,41 @@ same-length-2 : tie.Need-same-length-2
 same-length-2 c = search needs
 
 -- the row as it is set
-set-row : (c : tie.After-put-row)
-    → c .put-row .last .0
-    ≡ quarantine-row
-    (pool
-    (now (c .before .before .before .before .before .before .before .before .before .before .before .before .before .before .before .args .shadow))
-    (now (c .before .before .before .before .before .before .before .before .before .before .before .before .before .before .before .args .table)))
-    (c .before .before .before .before .before .before .before .before .before .before .before .before .before .before .before .args .row) .table
+set-row : (c : tie.After-set-number2) → c .set-number2 .last .0 ≡ quarantine-row (whole c) (start c .args .row) .table
 unfolding quarantine-row
 set-row c =
-    let sized = c .before .before .before .before .before .before .before .before .before in
-    let started = sized .before .before in
-    let start = started .before .before .before .before in
-    let table = now (start .args .table) in
-    let row = start .args .row in
-    c .put-row .ensures
-    ∙ ap (λ s. put-row table row s (sized .number2 .result) quarantined (start .args .seen .count + 1)) (started .number .ensures)
-    ∙ ap (λ s. put-row table row (column 0 table row) s quarantined (start .args .seen .count + 1)) (sized .number2 .ensures)
-    ∙ ap (λ n. put-row table row (column 0 table row) (column 1 table row) quarantined (n + 1)) (start .pre .count-is)
+    let table = now (start c .args .table) in
+    let row = start c .args .row in
+    let seen = start c .args .seen in
+    c .set-number2 .ensures
+    ∙ ap (λ t. set-number turn-column t row (seen .count + 1)) (stated c .set-number .ensures)
+    ∙ ap (λ n. set-number turn-column (set-number state-column table row quarantined) row (n + 1)) (start c .pre .count-is)
 
 returns : tie.Need-returns
 unfolding paint-row quarantine-row
 returns c =
-    let put = c .before .before .before .before in
-    let painted = put .before .before .before .before in
-    let weighed = painted .before .before .before in
-    let sized = weighed .before .before in
-    let started = sized .before .before in
-    let start = started .before .before .before .before in
-    let shadow = now (start .args .shadow) in
-    let table = now (start .args .table) in
-    let row = start .args .row in
-    let R = start .args .redzone in
-    let whole : Pool = pool shadow table in
-    let not-held : is-quarantined table row ≡ false = ne-eqb (state table row) quarantined (λ e. absurd (omega (arith, start .pre .is-live))) in
+    let turned = c .before .before .before .before in
+    let shadow = now (start turned .args .shadow) in
+    let table = now (start turned .args .table) in
+    let row = start turned .args .row in
+    let R = start turned .args .redzone in
+    let pre = start turned .pre in
+    let not-held : is-quarantined table row ≡ false = ne-eqb (state table row) quarantined (omega (arith, pre .is-live)) in
     let painted-over =
-    painted .row .ensures ∙ ap₂ (λ from size. fill shadow from (granules size) released-byte) (started .number .ensures) (sized .number2 .ensures) in
+    painted turned .row .ensures
+    ∙ ap₂ (λ from size. fill shadow from (granules size) released-byte) (started turned .number .ensures) (sized turned .number2 .ensures) in
     record {
-      pool-after = ap₂ pool painted-over (set-row put);
+      pool-after = ap₂ pool painted-over (set-row turned);
       weighed = record {
-        lent = record { most = omega (arith, put .put-row .kept .0, start .pre .lent .most); near = start .pre .lent .near };
+        lent = record { most = omega (arith, as-long turned, pre .lent .most); near = pre .lent .near };
         weight-is =
-            ap₂ (λ a b. a + b) (start .pre .weight-is) (weighed .weight-of .ensures ∙ ap (weight R) (sized .number2 .ensures))
-            ∙ sym (ap (weights R) (set-row put) ∙ quarantine-row-weights whole row (start .pre .below) R not-held);
+            ap₂ (λ a b. a + b) (pre .weight-is) (weighed turned .weight-of .ensures ∙ ap (weight R) (sized turned .number2 .ensures))
+            ∙ sym (ap (weights R) (set-row turned) ∙ quarantine-row-weights (whole turned) row (pre .below) R not-held);
         oldest-is =
             c .first-to-leave .ensures
-            ∙ ap₂ (λ t o. first-to-leave t row o) (set-row put) (start .pre .oldest-is)
-            ∙ entered-oldest whole row (start .pre .below) not-held
-            ∙ ap (λ t. answered (oldest t (rows t))) (sym (set-row put));
+            ∙ ap₂ (λ t o. first-to-leave t row o) (set-row turned) (pre .oldest-is)
+            ∙ entered-oldest (whole turned) row (pre .below) not-held
+            ∙ ap (λ t. answered (oldest t (rows t))) (sym (set-row turned));
       };
     }
 
@@ -145,7 +169,8 @@ quarantine-row-spec =
     weight-of-requires
     add-weight
     row-requires
-    put-row-requires
+    set-number-requires
+    set-number-requires-2
     first-to-leave-requires
     same-length
     same-length-2

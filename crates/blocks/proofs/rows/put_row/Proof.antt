@@ -1,71 +1,106 @@
--- `blocks::rows::put_row` meets its contract: four stores are the row. Assumes nothing.
-use Prim.Native.Nat.{_+_, _*_}
+-- `blocks::rows::put_row` meets its contract. The invariant: the first k numbers of the new row are stored, and all else is as it
+-- was. The measure is what is left of the row's numbers. Assumes nothing.
+use Prim.Native.Nat.{_+_, _-_, _*_, _≤_}
 use native.Mathlib.Omega.{arith}
-use mathlib.Core.Path.{sym, ap, _∙_}
-use lib.ListN.{set}
+use mathlib.Core.Path.{_≡_, ap, _∙_}
+use lib.ListN.{length, take, getD, set}
 use denote.Ref.{now}
 use borrow.Author.Needs.{needs}
 use Rattle.rules.specs.Limits.{row-numbers}
-use Rattle.rules.proofs.Table.{below-same, put-row-stores}
+use Rattle.rules.specs.Put.{put}
+use Rattle.rules.specs.Table.{set-number, put-row}
+use Rattle.rules.proofs.Put.{put-start, put-one-more, put-all}
+use Rattle.rules.proofs.Table.{in-table, below-same}
 use Rattle.blocks.proofs.rows.put_row.Statement.{statement}
 use Rattle.blocks.proofs.rows.put_row.Tie as tie
 
-set-number-requires : tie.Need-set-number-requires
-set-number-requires c κs = search needs
+abbrev Inv-loop : tie.InvT-loop
+Inv-loop table₀ row new k₀ table k =
+    (k ≤ row-numbers) × (length table ≡ length table₀) × (table ≡ put table₀ (row-numbers * row) (take k new))
 
-set-number-requires-2 : tie.Need-set-number-requires-2
-set-number-requires-2 c κs =
-    let one = c .before .before .before in
-    let start = one .before .before .before in
-    record { below = below-same (now (start .args .table)) (one .set-number .last .0) (start .args .row) (one .set-number .kept .0) (start .pre); in-row = omega arith }
+abbrev μ-loop : tie.MeasureT-loop
+μ-loop table₀ row new k₀ table k = row-numbers - k
 
-set-number-requires-3 : tie.Need-set-number-requires-3
-set-number-requires-3 c κs =
-    let two = c .before .before .before in
-    let one = two .before .before .before .before in
-    let start = one .before .before .before in
+numbers-requires : tie.Need-numbers-requires Inv-loop μ-loop
+numbers-requires c κs = search needs
+
+loop-holds : tie.Need-loop-holds Inv-loop μ-loop
+loop-holds c =
+    let start = c .before .before in
+    let table = now (start .args .table) in
+    (omega arith, search needs, put-start table (row-numbers * start .args .row) (c .numbers .result))
+
+mul-set-number : tie.Need-mul-set-number Inv-loop μ-loop
+mul-set-number c = search needs
+
+array-read-set-number : tie.Need-array-read-set-number Inv-loop μ-loop
+array-read-set-number c = search needs
+
+set-number-requires : tie.Need-set-number-requires Inv-loop μ-loop
+set-number-requires c κs =
+    let loop = c .before .before in
+    let start = loop .before .before .before in
     record {
-      below = below-same (now (start .args .table)) (two .set-number2 .last .0) (start .args .row) (two .set-number2 .kept .0 ∙ one .set-number .kept .0) (start .pre);
+      below = below-same (now (start .args .table)) (loop .loop .table) (start .args .row) (loop .loop .inv .1) (start .pre);
       in-row = omega arith;
     }
 
-set-number-requires-4 : tie.Need-set-number-requires-4
-set-number-requires-4 c κs =
-    let three = c .before .before .before in
-    let two = three .before .before .before .before in
-    let one = two .before .before .before .before in
-    let start = one .before .before .before in
-    record {
-      below =
-          below-same (now (start .args .table)) (three .set-number3 .last .0) (start .args .row)
-          (three .set-number3 .kept .0 ∙ two .set-number2 .kept .0 ∙ one .set-number .kept .0) (start .pre);
-      in-row = omega arith;
-    }
+add-k : tie.Need-add-k Inv-loop μ-loop
+add-k c = omega arith
 
-same-length : tie.Need-same-length
-same-length c = search needs
+loop-less : tie.Need-loop-less Inv-loop μ-loop
+loop-less c = omega arith
 
-returns : tie.Need-returns
-returns c =
-    let four = c .before .before in
-    let three = four .before .before .before .before in
-    let two = three .before .before .before .before in
-    let one = two .before .before .before .before in
-    let start = one .before .before .before in
+loop-again : tie.Need-loop-again Inv-loop μ-loop
+unfolding set-number
+loop-again c =
+    let stored = c .before .before in
+    let loop = stored .before .before .before in
+    let numbered = loop .before in
+    let start = numbered .before .before in
+    let table = now (start .args .table) in
     let at = row-numbers * start .args .row in
-    four .set-number4 .ensures
-    ∙ ap (λ t. set t (at + 3) (start .args .turn)) (three .set-number3 .ensures)
-    ∙ ap (λ t. set (set t (at + 2) (start .args .state)) (at + 3) (start .args .turn)) (two .set-number2 .ensures)
-    ∙ ap (λ t. set (set (set t (at + 1) (start .args .size)) (at + 2) (start .args .state)) (at + 3) (start .args .turn)) (one .set-number .ensures)
-    ∙ sym (put-row-stores (now (start .args .table)) (start .args .row) (start .args .start) (start .args .size) (start .args .state) (start .args .turn) (start .pre))
+    let new = numbered .numbers .result in
+    let k = loop .loop .k in
+    let all : length new ≡ row-numbers = ap length (numbered .numbers .ensures) in
+    let room : at + length new ≤ length table = omega (arith, in-table table (start .args .row) (start .pre)) in (
+      omega arith,
+      stored .set-number .kept .0 ∙ loop .loop .inv .1,
+      stored .set-number .ensures
+          ∙ ap (λ t. set t (at + k) (getD new k 0)) (loop .loop .inv .2)
+          ∙ put-one-more table at new k room (omega (arith, stored .before .before .loop-test .taken)),
+    )
+
+same-length : tie.Need-same-length Inv-loop μ-loop
+same-length c = c .before .loop .inv .1
+
+returns : tie.Need-returns Inv-loop μ-loop
+unfolding put-row
+returns c =
+    let loop = c .before in
+    let numbered = loop .before in
+    let start = numbered .before .before in
+    let table = now (start .args .table) in
+    let at = row-numbers * start .args .row in
+    let new = numbered .numbers .result in
+    let all : length new ≡ row-numbers = ap length (numbered .numbers .ensures) in
+    loop .loop .inv .2
+    ∙ put-all table at new (loop .loop .k) (omega arith)
+    ∙ ap (put table at) (numbered .numbers .ensures)
 
 pub put-row-spec : {M : Type 1} → statement M
 put-row-spec =
     tie.close
     (tie.spec
+    Inv-loop
+    μ-loop
+    numbers-requires
+    loop-holds
+    mul-set-number
+    array-read-set-number
     set-number-requires
-    set-number-requires-2
-    set-number-requires-3
-    set-number-requires-4
+    add-k
+    loop-less
+    loop-again
     same-length
     returns)

@@ -1,6 +1,7 @@
 -- `blocks::rows::set_number` meets its contract: the number lies in the table. Assumes nothing.
 use native.Mathlib.Omega.{arith}
 use borrow.Author.Needs.{needs}
+use Rattle.rules.specs.Table.{set-number}
 use Rattle.blocks.proofs.Survey.{number-inside}
 use Rattle.blocks.proofs.rows.set_number.Statement.{statement}
 use Rattle.blocks.proofs.rows.set_number.Tie as tie
@@ -21,6 +22,7 @@ same-length : tie.Need-same-length
 same-length c = search needs
 
 returns : tie.Need-returns
+unfolding set-number
 returns c = search needs
 
 pub set-number-spec : {M : Type 1} → statement M

@@ -6,7 +6,7 @@ use mathlib.Core.Bool.{_||_}
 use denote.Ref.{now}
 use lib.Dec.{eqb}
 use borrow.Author.Needs.{needs}
-use Rattle.rules.specs.Limits.{granule, row-numbers}
+use Rattle.rules.specs.Limits.{granule, size-column, row-numbers}
 use Rattle.rules.specs.Table.{column, size}
 use Rattle.rules.specs.Release.{starts-at, weight}
 use Rattle.blocks.specs.Survey.{first-of, surveyed}
@@ -68,7 +68,7 @@ add-weight c =
     let R = start .args .redzone in
     let table = now (start .args .table) in
     let row = start .args .row in
-    let fits : (j : ℕ) → size table j < 2 ^ 32 = λ j. omega (arith, known .shared-slice-known .given (row-numbers * j + 1)) in
+    let fits : (j : ℕ) → size table j < 2 ^ 32 = λ j. omega (arith, known .shared-slice-known .given (row-numbers * j + size-column)) in
     let so-far = weight-most-so-far R table (start .args .address) row (start .args .seen) (start .pre .before) (start .pre .lent .near) fits in
     let one-more = weighed .weight-of .ensures ∙ ap (weight R) (weighed .before .number3 .ensures) in
     record { fits = weights-fit row row (start .args .seen .weight) (weighed .weight-of .result) (start .pre .lent) (omega (arith, start .pre .below)) fits so-far one-more }
