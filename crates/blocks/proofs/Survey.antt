@@ -22,19 +22,19 @@ use Rattle.rules.proofs.Lowest.{one-more-found, one-more-here, one-more-none}
 use Rattle.rules.proofs.Table.{in-table}
 use Rattle.rules.proofs.Release.{if-quarantined-yes, if-quarantined-no, quarantined-most, weight-most}
 use Rattle.blocks.specs.declared.rows.Seen.{Seen}
-use Rattle.blocks.specs.Survey.{InRow, Lent, first-of, surveyed}
+use Rattle.blocks.specs.Survey.{InRow, TableLent, first-of, surveyed}
 
 -- a number of a row lies in the table
 pub number-inside : {table : List ℕ} {i k : ℕ} → InRow table i k → row-numbers * i + k < length table
 number-inside {table} {i} r = omega (arith, in-table table i (r .below), r .in-row)
 
 -- a lent table has at most 1,024 rows
-pub rows-most : {R : ℕ} {table : List ℕ} → Lent R table → rows table ≤ most-rows
+pub rows-most : {R : ℕ} {table : List ℕ} → TableLent R table → rows table ≤ most-rows
 unfolding rows
 rows-most l = omega (arith, l .most)
 
 -- what n rows weigh, and one more, fits 64 bits
-pub weights-fit : {R : ℕ} {table : List ℕ} (n i w v : ℕ) → Lent R table → n ≤ rows table → ((j : ℕ) → size table j < 2 ^ 32)
+pub weights-fit : {R : ℕ} {table : List ℕ} (n i w v : ℕ) → TableLent R table → n ≤ rows table → ((j : ℕ) → size table j < 2 ^ 32)
     → w ≤ n * 2 ^ 33 → v ≡ weight R (size table i) → w + v < 2 ^ 64
 weights-fit {R} {table} n i w v lent in-rows fits so-far one-more =
     omega (arith, weight-most R (size table i) (lent .near) (fits i), rows-most lent)

@@ -19,7 +19,7 @@ pub record InRow (table : List ℕ) (i k : ℕ) : Type 0 where
   pub in-row : k < row-numbers
 
 -- a lent table has at most so many rows, and the redzone is within its limit: then no weight wraps in 64 bits
-pub record Lent (R : ℕ) (table : List ℕ) : Type 0 where
+pub record TableLent (R : ℕ) (table : List ℕ) : Type 0 where
   pub most : length table ≤ row-numbers * most-rows
   pub near : R ≤ most-redzone
 
@@ -55,7 +55,7 @@ pub record OldestSoFar (table : List ℕ) (earlier : Found) (i : ℕ) : Type 0 w
   pub before : earlier ≡ answered (oldest table i)
 
 -- row i comes next, and `seen` is what was found before it
-pub record SoFar (R : ℕ) (table : List ℕ) (a i : ℕ) (seen : Seen) : Type 0 where
-  pub lent : Lent R table
+pub record SurveySoFar (R : ℕ) (table : List ℕ) (a i : ℕ) (seen : Seen) : Type 0 where
+  pub lent : TableLent R table
   pub below : i < rows table
   pub before : seen ≡ surveyed R table a i

@@ -17,7 +17,7 @@ ghost use Rattle.rules.specs.Lowest.{answered};
 ghost use Rattle.rules.specs.Table.{rows, column, set-number, put-row};
 ghost use Rattle.rules.specs.Grant.{empty-row};
 ghost use Rattle.rules.specs.Release.{weight, oldest};
-ghost use Rattle.blocks.specs.Survey.{InRow, Lent, SoFar, OldestSoFar, first-of, surveyed, survey};
+ghost use Rattle.blocks.specs.Survey.{InRow, TableLent, SurveySoFar, OldestSoFar, first-of, surveyed, survey};
 
 // What one pass over the rows finds: the lowest live row that starts at an address, whether a
 // quarantined one does, how many are quarantined, what they weigh, and the one to evict.
@@ -121,7 +121,7 @@ pub fn oldest_with(table: &[u32], before: Found, row: usize) -> Found
 
 // What was found in the rows before `row`, and in it.
 fn with_row(table: &[u32], redzone: usize, address: u32, row: usize, seen: Seen) -> Seen
-    requires { ⌜ SoFar redzone (now table) address row seen ⌝ }
+    requires { ⌜ SurveySoFar redzone (now table) address row seen ⌝ }
     ensures { λ r. ⌜ r ≡ surveyed redzone (now (table .entry)) address (row + 1) ⌝ }
 {
     let at = GRANULE as u64 * number(table, row, START_COLUMN) as u64;
@@ -153,7 +153,7 @@ fn with_row(table: &[u32], redzone: usize, address: u32, row: usize, seen: Seen)
 }
 
 pub fn survey(table: &[u32], redzone: usize, address: u32) -> Seen
-    requires { ⌜ Lent redzone (now table) ⌝ }
+    requires { ⌜ TableLent redzone (now table) ⌝ }
     ensures { λ r. ⌜ r ≡ survey redzone (now (table .entry)) address ⌝ }
 {
     let rows = table.len() / ROW_NUMBERS;

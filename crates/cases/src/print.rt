@@ -4,6 +4,7 @@ use crate::show;
 use rules::Answer;
 use rules::Fed;
 use rules::Session;
+use rules::limits::ROW_NUMBERS;
 ghost use Prim.Native.Nat.{_<_, _≤_};
 ghost use lib.ListN.{length};
 
@@ -130,17 +131,21 @@ pub fn shadow(shadow: &[u8]) {
     }
 }
 
-// The row at `at` and the one after it.
+// The row at `at` and the one after it, where both are whole.
 fn same_rows(table: &[u32], at: usize) -> bool {
-    if at < table.len() {
-        if 7 < table.len() - at {
-            let starts = table[at] == table[at + 4];
-            let sizes = table[at + 1] == table[at + 5];
-            let states = table[at + 2] == table[at + 6];
-            return starts & sizes & states & (table[at + 3] == table[at + 7]);
-        }
+    if table.len() < at {
+        return false;
     }
-    false
+    if table.len() - at < 2 * ROW_NUMBERS {
+        return false;
+    }
+    let mut same = true;
+    let mut k = 0;
+    while k < ROW_NUMBERS {
+        same = same & (table[at + k] == table[at + ROW_NUMBERS + k]);
+        k += 1;
+    }
+    same
 }
 
 fn number_of(mark: &[u8], table: &[u32], at: usize, k: usize) {
@@ -152,31 +157,33 @@ fn number_of(mark: &[u8], table: &[u32], at: usize, k: usize) {
     }
 }
 
-// As many of its four numbers as there are: a table may end within a row.
+// As many of its numbers as there are: a table may end within a row.
 fn row(table: &[u32], at: usize) {
     number_of(b"(", table, at, 0);
-    number_of(b",", table, at, 1);
-    number_of(b",", table, at, 2);
-    number_of(b",", table, at, 3);
+    let mut k = 1;
+    while k < ROW_NUMBERS {
+        number_of(b",", table, at, k);
+        k += 1;
+    }
     io::write_all(1, b")");
 }
 
 pub fn rows(table: &[u32]) {
     io::write_all(1, b", rows");
-    let whole = table.len() / 4;
+    let whole = table.len() / ROW_NUMBERS;
     let mut first = 0;
     let mut i = 0;
     while i < whole {
-        if !same_rows(table, 4 * i) {
+        if !same_rows(table, ROW_NUMBERS * i) {
             times(i - first + 1);
-            row(table, 4 * i);
+            row(table, ROW_NUMBERS * i);
             first = i + 1;
         }
         i += 1;
     }
-    if 4 * whole < table.len() {
+    if ROW_NUMBERS * whole < table.len() {
         times(1);
-        row(table, 4 * whole);
+        row(table, ROW_NUMBERS * whole);
     }
 }
 

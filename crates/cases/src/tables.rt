@@ -2,6 +2,11 @@
 // (2, 13, 1, 0). F stands for ffffffff, E for fffffffe, G for 20000002, H for 1fffffff and I for 20000000.
 use crate::show;
 use crate::text;
+use rules::limits::ROW_NUMBERS;
+
+pub const ROWS: usize = 4;
+
+pub const NUMBERS: usize = ROWS * ROW_NUMBERS;
 
 fn large(letter: u8) -> u32 {
     if letter == b'F' {
@@ -29,22 +34,22 @@ fn value_of(letter: u8) -> u32 {
     letter as u32 % 16
 }
 
-// Each four numbers stand in five bytes.
-pub fn table_of(line: &[u8], word: usize) -> [u32; 16] {
-    let mut table = [0u32; 16];
+// A blank stands behind the numbers of a row.
+pub fn table_of(line: &[u8], word: usize) -> [u32; NUMBERS] {
+    let mut table = [0u32; NUMBERS];
     let mut i = 0;
-    while i < 16 {
-        table[i] = value_of(text::letter(line, word, 5 * i / 4));
+    while i < NUMBERS {
+        table[i] = value_of(text::letter(line, word, i + i / ROW_NUMBERS));
         i += 1;
     }
     table
 }
 
-pub fn same_rows(table: &[u32; 16], line: &[u8], word: usize) -> bool {
+pub fn same_rows(table: &[u32; NUMBERS], line: &[u8], word: usize) -> bool {
     let expected = table_of(line, word);
     let mut same = true;
     let mut i = 0;
-    while i < 16 {
+    while i < NUMBERS {
         same = same & show::same_number32(table[i], expected[i]);
         i += 1;
     }

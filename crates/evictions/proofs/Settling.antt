@@ -14,7 +14,7 @@ use Rattle.rules.specs.Release.{in-quarantine, weight, weights, oldest, Pool, e
 use Rattle.rules.proofs.Lowest.{answered-one, answered-nothing}
 use Rattle.rules.proofs.Release.{Oldest, oldest-some, some-oldest, evict-row-length, evict-row-shadow, paint-row-length, evict-row-weights, evict-oldest-is, evict-oldest-count, evicted-most, settle-done, settle-more}
 use Rattle.evictions.specs.declared.Held.{Held}
-use Rattle.evictions.specs.Evictions.{settled, Next, Evicted, Weighed}
+use Rattle.evictions.specs.Evictions.{settled, Next, EvictedRow, Weighed}
 
 -- between two evictions: as long as at the start, the weights and the next row known, and what is left to do is what was to do, less
 -- what is done
@@ -79,7 +79,7 @@ module _ {R Q : ℕ} {start here : Pool} {weight· : ℕ} {next : Found} {evicte
       settling-less = evict-oldest-count R Q here heavy ∙ ap (λ p. suc (in-quarantine (p .table))) (evict-oldest-is here i found-row)
 
       -- after it
-      pub settling-next : (after : Pool) (next′ : Found) → Evicted here i after next′
+      pub settling-next : (after : Pool) (next′ : Found) → EvictedRow here i after next′
           → Settling R Q start after (weight· - weight R (size (here .table) i)) next′ (evicted + 1)
       settling-next after next′ e =
           let left : settle R Q here ≡ and-one-more (settle R Q after) =

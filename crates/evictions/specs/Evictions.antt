@@ -6,7 +6,7 @@ use Rattle.rules.specs.declared.Found.{Found}
 use Rattle.rules.specs.Lowest.{answered}
 use Rattle.rules.specs.Table.{rows, lessened}
 use Rattle.rules.specs.Release.{weights, oldest, Pool, evict-row, Settled}
-use Rattle.blocks.specs.Survey.{Lent}
+use Rattle.blocks.specs.Survey.{TableLent}
 use Rattle.evictions.specs.declared.Held.{Held}
 
 -- a shadow and a table, lent together
@@ -26,12 +26,12 @@ pub record Lessened (before after : List ℕ) (next : Found) : Type 0 where
   pub oldest-next : Next after next
 
 -- row i is evicted
-pub record Evicted (before : Pool) (i : ℕ) (after : Pool) (next : Found) : Type 0 where
+pub record EvictedRow (before : Pool) (i : ℕ) (after : Pool) (next : Found) : Type 0 where
   pub pool-after : after ≡ evict-row before i
   pub oldest-next : Next (after .table) next
 
 -- what a table's quarantine weighs, and the row to evict next
 pub record Weighed (R : ℕ) (table : List ℕ) (held : Held) : Type 0 where
-  pub lent : Lent R table
+  pub lent : TableLent R table
   pub weight-is : held .weight ≡ weights R table
   pub oldest-is : Next table (held .oldest)

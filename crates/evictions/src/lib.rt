@@ -10,7 +10,7 @@ ghost use mathlib.Core.Path.{_≡_};
 ghost use Prim.Native.Nat.{_-_, _<_};
 ghost use Rattle.rules.specs.Table.{rows};
 ghost use Rattle.rules.specs.Release.{settle};
-ghost use Rattle.evictions.specs.Evictions.{pool, settled, Lessened, Evicted, Weighed};
+ghost use Rattle.evictions.specs.Evictions.{pool, settled, Lessened, EvictedRow, Weighed};
 
 // What the quarantine weighs, and the row to evict next.
 pub struct Held {
@@ -43,7 +43,7 @@ pub fn lessen(table: &mut [u32]) -> Found
 // The row leaves: its granules fa, itself emptied, every other turn above 0 lessened by one.
 pub fn evict(shadow: &mut [u8], table: &mut [u32], row: usize) -> Found
     requires { ⌜ row < rows (now table) ⌝ }
-    ensures { λ r. ⌜ Evicted (pool (now (shadow .entry)) (now (table .entry))) row (pool (now (shadow .exit)) (now (table .exit))) r ⌝ }
+    ensures { λ r. ⌜ EvictedRow (pool (now (shadow .entry)) (now (table .entry))) row (pool (now (shadow .exit)) (now (table .exit))) r ⌝ }
 {
     let start = rows::number(table, row, START_COLUMN);
     let size = rows::number(table, row, SIZE_COLUMN);

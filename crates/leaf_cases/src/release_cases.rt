@@ -1,6 +1,7 @@
 // The quarantine: turns lessened, a row evicted, and whole releases, with answer, shadow and table compared each time.
 use cases::show;
 use cases::show::Three;
+use cases::tables::NUMBERS;
 use cases::tables::same_rows;
 use cases::tables::same_shadow;
 use cases::tables::shadow_of;
@@ -50,7 +51,7 @@ fn same_answer(answer: Answer, line: &[u8]) -> bool {
     show::same_three(answered, Three(status, 0, text::number(line, 9)))
 }
 
-fn released(shadow: &mut [u8; 8], table: &mut [u32; 16], line: &[u8]) -> bool {
+fn released(shadow: &mut [u8; 8], table: &mut [u32; NUMBERS], line: &[u8]) -> bool {
     let limit = text::number32(line, 6);
     let answer = release_within(shadow, table, limit, text::number32(line, 7));
     same_answer(answer, line)

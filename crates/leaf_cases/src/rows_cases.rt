@@ -2,6 +2,7 @@
 use blocks::rows;
 use blocks::rows::Seen;
 use cases::show;
+use cases::tables::ROWS;
 use cases::tables::same_rows;
 use cases::tables::table_of;
 use cases::text;
@@ -15,7 +16,7 @@ use rules::limits::ROW_NUMBERS;
 pub fn empty_row(line: &[u8]) {
     let table = table_of(line, 2);
     let lent = text::number(line, 1) as usize;
-    if lent <= 4 {
+    if lent <= ROWS {
         return show::found(
             rows::empty_row(&table[0..ROW_NUMBERS * lent]),
             text::number(line, 6),
@@ -98,7 +99,7 @@ fn surveyed(table: &[u32], line: &[u8]) {
 pub fn survey(line: &[u8]) {
     let table = table_of(line, 2);
     let lent = text::number(line, 1) as usize;
-    if lent <= 4 {
+    if lent <= ROWS {
         return surveyed(&table[0..ROW_NUMBERS * lent], line);
     }
     show::not_asked();

@@ -4,6 +4,7 @@ use crate::fields;
 use cases::print;
 use cases::show;
 use rules::Session;
+use rules::limits::ROW_NUMBERS;
 
 // What a feed answered, and everything that it left.
 pub fn feed(
@@ -51,7 +52,7 @@ fn fed(
     if granules <= 16 {
         if rows <= 4 {
             if room <= 80 {
-                let numbers = 4 * rows;
+                let numbers = ROW_NUMBERS * rows;
                 open_and_feed(
                     words,
                     &mut shadow[0..granules],

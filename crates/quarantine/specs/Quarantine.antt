@@ -10,7 +10,7 @@ use Rattle.rules.specs.Limits.{live}
 use Rattle.rules.specs.Table.{rows, state, turn}
 use Rattle.rules.specs.Release.{in-quarantine, weights, Pool, quarantine-row}
 use Rattle.blocks.specs.declared.rows.Seen.{Seen}
-use Rattle.blocks.specs.Survey.{Lent}
+use Rattle.blocks.specs.Survey.{TableLent}
 use Rattle.evictions.specs.declared.Held.{Held}
 use Rattle.evictions.specs.Evictions.{Next, Weighed}
 
@@ -30,7 +30,7 @@ pub record BothIn (table : List ℕ) (i : ℕ) (other : Found) : Type 0 where
 
 -- row i is live, and `seen` is what one pass found
 pub record Entering (R : ℕ) (table : List ℕ) (i : ℕ) (seen : Seen) : Type 0 where
-  pub lent : Lent R table
+  pub lent : TableLent R table
   pub below : i < rows table
   pub is-live : state table i ≡ live
   pub count-is : seen .count ≡ in-quarantine table

@@ -13,7 +13,7 @@ use rules::limits::TURN_COLUMN;
 ghost use mathlib.Core.Path.{_≡_};
 ghost use Rattle.rules.specs.Grant.{acted};
 ghost use Rattle.rules.specs.Release.{release};
-ghost use Rattle.blocks.specs.Survey.{Lent};
+ghost use Rattle.blocks.specs.Survey.{TableLent};
 ghost use Rattle.evictions.specs.Evictions.{pool};
 ghost use Rattle.quarantine.specs.Quarantine.{first-to-leave, BothIn, Entering, Entered};
 
@@ -74,7 +74,7 @@ pub fn release(
     quarantine: u32,
     address: u32,
 ) -> Answer
-    requires { ⌜ Lent redzone (now table) ⌝ }
+    requires { ⌜ TableLent redzone (now table) ⌝ }
     ensures { λ r. ⌜ acted r (now (shadow .exit)) (now (table .exit))
         ≡ release redzone quarantine (now (shadow .entry)) (now (table .entry)) address ⌝ }
 {

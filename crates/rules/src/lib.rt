@@ -4,6 +4,7 @@
 pub mod limits;
 
 use limits::EMPTY;
+use limits::ROW_NUMBERS;
 ghost use mathlib.Core.Path.{_≡_};
 ghost use Rattle.rules.specs.Table.{numbers, zero-row};
 
@@ -33,7 +34,7 @@ pub struct Row {
 }
 
 // Its numbers, in the columns' order.
-pub fn numbers(row: Row) -> [u32; 4]
+pub fn numbers(row: Row) -> [u32; ROW_NUMBERS]
     ensures { λ r. ⌜ r ≡ numbers row ⌝ }
 {
     [row.start, row.size, row.state, row.turn]

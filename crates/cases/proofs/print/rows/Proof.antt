@@ -4,12 +4,13 @@ use Prim.Native.Nat.{_≤_, _-_, _*_}
 use mathlib.Core.Logic.{⊎-elim}
 use native.Mathlib.Omega.{arith}
 use lib.ListN.{length}
+use Rattle.rules.specs.Limits.{row-numbers}
 use borrow.Author.Needs.{needs}
 use Rattle.cases.proofs.print.rows.Statement.{statement}
 use Rattle.cases.proofs.print.rows.Tie as tie
 
 abbrev Inv-loop : tie.InvT-loop
-Inv-loop table whole first₀ i₀ first i = ((first ≤ i) × (i ≤ whole)) × (4 * whole ≤ length table)
+Inv-loop table whole first₀ i₀ first i = ((first ≤ i) × (i ≤ whole)) × (row-numbers * whole ≤ length table)
 
 abbrev μ-loop : tie.MeasureT-loop
 μ-loop table whole first₀ i₀ first i = whole - i

@@ -1,15 +1,16 @@
--- `cases::tables::same_rows` meets its contract. The invariant: i is at most 16. The measure is what is left of that. Assumes
--- nothing.
-use Prim.Native.Nat.{_-_, _≤_}
+-- `cases::tables::same_rows` meets its contract. The invariant: i is at most the length of the table. The measure is what is left
+-- of that. Assumes nothing.
+use Prim.Native.Nat.{_-_, _*_, _≤_}
 use borrow.Author.Needs.{needs}
+use Rattle.rules.specs.Limits.{row-numbers}
 use Rattle.cases.proofs.tables.same_rows.Statement.{statement}
 use Rattle.cases.proofs.tables.same_rows.Tie as tie
 
 abbrev Inv-loop : tie.InvT-loop
-Inv-loop table line word expected same₀ i₀ same i = i ≤ 16
+Inv-loop table line word expected same₀ i₀ same i = i ≤ 4 * row-numbers
 
 abbrev μ-loop : tie.MeasureT-loop
-μ-loop table line word expected same₀ i₀ same i = 16 - i
+μ-loop table line word expected same₀ i₀ same i = 4 * row-numbers - i
 
 table-of-requires : tie.Need-table-of-requires Inv-loop μ-loop
 table-of-requires c κs = search needs

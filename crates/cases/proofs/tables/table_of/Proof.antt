@@ -1,21 +1,22 @@
--- `cases::tables::table_of` meets its contract. The invariant: i is at most 16. The measure is what is left of that. Assumes
--- nothing.
-use Prim.Native.Nat.{_-_, _≤_}
+-- `cases::tables::table_of` meets its contract. The invariant: i is at most the length of the table. The measure is what is left
+-- of that. Assumes nothing.
+use Prim.Native.Nat.{_-_, _*_, _≤_}
 use borrow.Author.Needs.{needs}
+use Rattle.rules.specs.Limits.{row-numbers}
 use Rattle.cases.proofs.tables.table_of.Statement.{statement}
 use Rattle.cases.proofs.tables.table_of.Tie as tie
 
 abbrev Inv-loop : tie.InvT-loop
-Inv-loop line word table₀ i₀ table i = i ≤ 16
+Inv-loop line word table₀ i₀ table i = i ≤ 4 * row-numbers
 
 abbrev μ-loop : tie.MeasureT-loop
-μ-loop line word table₀ i₀ table i = 16 - i
+μ-loop line word table₀ i₀ table i = 4 * row-numbers - i
 
 loop-holds : tie.Need-loop-holds Inv-loop μ-loop
 loop-holds c = search needs
 
-mul-letter : tie.Need-mul-letter Inv-loop μ-loop
-mul-letter c = search needs
+add-letter : tie.Need-add-letter Inv-loop μ-loop
+add-letter c = search needs
 
 letter-requires : tie.Need-letter-requires Inv-loop μ-loop
 letter-requires c κs = search needs
@@ -48,7 +49,7 @@ table-of-spec =
     Inv-loop
     μ-loop
     loop-holds
-    mul-letter
+    add-letter
     letter-requires
     value-of-requires
     mul-table
