@@ -1,5 +1,5 @@
--- Reads and writes from an opening: reported exactly when a byte lies in no live block of the history, with the least such byte and its kind; and
--- what follows of two blocks and of a released one. Assumes nothing.
+-- Reads and writes: reported exactly when a byte lies in no live block of the history, with the least such byte and its
+-- kind; and what follows of two blocks and of a released one. Assumes nothing.
 use Prim.Native.Nat.{ℕ, _+_, _-_, _*_, _≤_, _<_, _^_, _/_, _%_}
 use native.Mathlib.Decide.{ℕ-discrete}
 use native.Mathlib.Omega.{arith}
@@ -7,38 +7,46 @@ use mathlib.Core.Path.{_≡_, refl, sym, ap, subst, _∙_}
 use mathlib.Core.Logic.{_≢_, _⊎_, inl, inr, ⊎-elim}
 use mathlib.Core.Bool.{true, false, true≢false}
 use mathlib.Core.Option.{some}
-use mathlib.Core.List.{List, [], _∷_, _++_, append-assoc, List·Memᴰ·head, List·Memᴰ·tail, List·Memᴰ·cases-cons}
+use mathlib.Core.List.{List, [], _∷_, _++_, append-assoc, List·Memᴰ·head, List·Memᴰ·cases-cons, Memᴰ·append-left}
 use lib.ListN.{length, getD}
 use Rattle.rules.specs.declared.Answer.the-variants.{Done, NotGood}
-use Rattle.rules.specs.declared.Frame.{Frame}
-use Rattle.rules.specs.declared.Frame.the-variants.{Grant, Release, Read, Write, Refused}
+use Rattle.rules.specs.declared.Frame.the-variants.{Read, Write}
 use Rattle.rules.specs.Limits.{granule, live, quarantined}
 use Rattle.rules.specs.Table.{rows, start, size, state}
 use Rattle.rules.specs.Shadow.{addressable, kind, first-bad, shadow-of, FirstBad}
 use Rattle.rules.specs.Answers.{in-numbers, status}
-use Rattle.rules.specs.Grant.{counted, granules, granted}
+use Rattle.rules.specs.Grant.{granules, granted}
 use Rattle.rules.specs.Release.{Pool}
 use Rattle.rules.specs.Feed.{State, act-line}
 use Rattle.rules.specs.Watcher.{access, act, watcher}
-use Rattle.rules.proofs.Tests.{by-found, by-order}
+use Rattle.rules.proofs.Tests.{by-found, by-order, by-test}
 use Rattle.rules.proofs.Shadow.{first-bad-some, first-bad-none, not-inside, kind-inside, kind-outside}
 use Rattle.rules.proofs.Grant.{granules-enough, granules-least, granted-last}
 use Rattle.rules.proofs.Refusals.{access-good, access-bad}
-use Rattle.promises.specs.History.{held, Exchange, asks, status-of, Block, block, has-byte, lies-in, others, History, nothing-yet, done, heard, heard-all, history, value-of, kind-of, latest}
-use Rattle.promises.specs.Replay.{Replay, Line, ran, happened}
+use Rattle.promises.specs.History.{Exchange, asks, status-of, kind-of, value-of, Block, block, has-byte, lies-in}
+use Rattle.promises.specs.History.{others, latest, held}
+use Rattle.promises.specs.History.{seeks, Granted, Released, did, events}
+use Rattle.promises.specs.History.{History, happens, happen, heard, heard-all}
+use Rattle.promises.specs.Replay.{Replay, session, Line, history, live-at, quarantine-at, held-at, ran, happened}
 use Rattle.promises.specs.Rows.{_∈_, Held, of-row, past, RowOf}
-use Rattle.promises.specs.Accesses.{Touches, Stray, Reported, First, FirstBadByte, TwoBlocks, Grants, UntilGranted, OutsideNowhere, KindBy, Kinds}
-use Rattle.promises.proofs.History.{heard-done, by-heard, heard-append}
+use Rattle.promises.specs.Accesses.{Touches, Stray, Reported, First, FirstBadByte, TwoBlocks, UntilGranted}
+use Rattle.promises.specs.Accesses.{OutsideNowhere, KindBy, Kinds}
+use Rattle.promises.proofs.History.{did-alone, did-both, events-done, DidGrant, granted-by, released-by}
+use Rattle.promises.proofs.History.{heard-append, heard-stray}
+use Rattle.promises.proofs.Agreement.{apart-bytes}
+use Rattle.promises.proofs.Sought.{placement}
 use Rattle.promises.proofs.Replay.{Moment, acted-on, one-status}
-use Rattle.promises.proofs.Blocks.{has-byte-true, lies-in-is, lies-in-not, others-of, has-byte-is}
+use Rattle.promises.proofs.Blocks.{has-byte-true, has-byte-is, lies-in-is, lies-in-not, others-of, others-in}
 use Rattle.promises.proofs.Laid.{ends, Laid, Off}
 use Rattle.promises.proofs.Queue.{queue-row}
 use Rattle.promises.proofs.Drawn.{addressable-lies, live-byte, byte-fits}
-use Rattle.promises.proofs.Invariant.{Stands, HoldsOf, line-moment, replay-holds, held-row, row-held}
+use Rattle.promises.proofs.Invariant.{Stands, held-row, row-held}
+use Rattle.promises.proofs.Beginning.{HoldsOf, replay-holds, line-moment}
 
 -- ---- the answer to an access
 
-access-answer : {P : State Pool → History → Type 0} {h : History} {x : Exchange} (m : Moment P h x) (a n : ℕ) → Touches x a n
+access-answer : {P : State Pool → History → Type 0} {h : History} {x : Exchange} (m : Moment P h x) (a n : ℕ)
+    → Touches x a n
     → act-line watcher (m .st) .answer ≡ access (m .st .pool .shadow) a n
 unfolding act
 access-answer m a n (inl e) = ap (λ acted. acted .answer) (acted-on m (Read a n) e)
@@ -52,7 +60,8 @@ module _ {S R Q : ℕ} {shadow table : List ℕ} {h : History} (stands : Stands 
   kind-fits b =
       let of-shadow : length shadow ≡ S = stands .standing .laid .of-shadow in
       by-order b (granule * length shadow)
-      (λ in-arena. omega (arith, kind-inside shadow b in-arena, byte-fits (stands .standing .laid) (b / granule) (omega arith)))
+      (λ in-arena.
+      omega (arith, kind-inside shadow b in-arena, byte-fits (stands .standing .laid) (b / granule) (omega arith)))
       (λ beyond. omega (arith, kind-outside shadow b beyond))
 
   kind-by : (b : ℕ) → lies-in (h .live) b ≡ false → KindBy S (h .live) (latest R Q (h .released)) b (kind shadow b)
@@ -68,8 +77,10 @@ module _ {S R Q : ℕ} {shadow table : List ℕ} {h : History} (stands : Stands 
             let first : granule * start table (row .0) ≡ y .address = ap (λ w. w .address) (row .3) in
             let size-is : size table (row .0) ≡ y .size = ap (λ w. w .size) (row .3) in
             let granules-are : granules (size table (row .0)) ≡ granules (y .size) = ap granules size-is in
-            let high : ends table (row .0) + R ≤ S = laid .high (row .0) (record { below = row .1; has = inr (row .2) }) in
-            kind-inside shadow b (omega arith) ∙ laid .of-quarantined (row .0) (row .1) (row .2) (b / granule) (omega arith) (omega arith);
+            let high : ends table (row .0) + R ≤ S =
+            laid .high (row .0) (record { below = row .1; has = inr (row .2) }) in
+            kind-inside shadow b (omega arith)
+            ∙ laid .of-quarantined (row .0) (row .1) (row .2) (b / granule) (omega arith) (omega arith);
         past-the-end = λ y m from below.
             let row : RowOf table live y = stands .standing .lives .row y m in
             let first : granule * start table (row .0) ≡ y .address = ap (λ w. w .address) (row .3) in
@@ -81,9 +92,11 @@ module _ {S R Q : ℕ} {shadow table : List ℕ} {h : History} (stands : Stands 
             by-order b (y .address + y .size)
             (λ inside. absurd (true≢false (sym (lies-in-is (h .live) b y m (has-byte-is y b from inside)) ∙ nowhere)))
             (λ past·. past·) in
-            let last : b / granule - start table (row .0) ≡ size table (row .0) / granule = omega (arith, granules-least (size table (row .0))) in
+            let last : b / granule - start table (row .0) ≡ size table (row .0) / granule =
+            omega (arith, granules-least (size table (row .0))) in
             kind-inside shadow b (omega arith)
-            ∙ live-byte laid (row .0) (b / granule) (record { held = own; from = omega arith; below = omega arith }) (row .2)
+            ∙ live-byte laid (row .0) (b / granule) (record { held = own; from = omega arith; below = omega arith })
+            (row .2)
             ∙ ap (λ g. getD (granted (size table (row .0))) g 0) last
             ∙ granted-last (size table (row .0))
             ∙ ap (λ s. s % granule) size-is;
@@ -110,22 +123,25 @@ record Passed (blocks : List Block) (x : Exchange) (a n : ℕ) : Type 0 where
 
 -- of a replay's line
 abbrev BadIn : Replay → List Exchange → Exchange → ℕ → ℕ → Type 0
-BadIn r before = Bad (length (r .shadow)) (history before .live) (latest (r .redzone) (r .quarantine) (history before .released))
+BadIn r before = Bad (session r .granules) (live-at r before) (quarantine-at r before)
 
 judged : (r : Replay) (before : List Exchange) (x : Exchange) → Line r before x → (a n : ℕ) → Touches x a n
-    → BadIn r before x a n ⊎ Passed (history before .live) x a n
+    → BadIn r before x a n ⊎ Passed (live-at r before) x a n
 unfolding status in-numbers
 judged r before x line a n touches =
-    let m : Moment (HoldsOf r) (history before) x = line-moment r before x line in
+    let m : Moment (HoldsOf r) (history r before) x = line-moment r before x line in
     let shadow : List ℕ = m .st .pool .shadow in
-    let blocks : List Block = history before .live in
+    let blocks : List Block = live-at r before in
     let stands = m .holds .stands in
-    let same : (b : ℕ) → addressable shadow b ≡ lies-in blocks b = addressable-lies (stands .standing .laid) blocks (stands .standing .lives) in
+    let same : (b : ℕ) → addressable shadow b ≡ lies-in blocks b =
+    addressable-lies (stands .standing .laid) blocks (stands .standing .lives) in
     by-found (first-bad shadow a n)
     (λ b e.
     let f : FirstBad shadow a n b = first-bad-some shadow a n b e in
-    let answer : act-line watcher (m .st) .answer ≡ NotGood (kind shadow b) b = access-answer m a n touches ∙ access-bad shadow a n b e in
-    let kind-is : in-numbers (act-line watcher (m .st) .answer) .kind ≡ kind shadow b = ap (λ c. in-numbers c .kind) answer in
+    let answer : act-line watcher (m .st) .answer ≡ NotGood (kind shadow b) b =
+    access-answer m a n touches ∙ access-bad shadow a n b e in
+    let kind-is : in-numbers (act-line watcher (m .st) .answer) .kind ≡ kind shadow b =
+    ap (λ c. in-numbers c .kind) answer in
     let stray : lies-in blocks b ≡ false = sym (same b) ∙ f .bad in
     inl
     (record {
@@ -135,7 +151,8 @@ judged r before x line a n touches =
         value = m .value-is ∙ ap (λ c. some (in-numbers c .value)) answer;
         stray = record { from = f .from; below = f .below; nowhere = stray };
         least =
-            λ c s. by-order c b (λ less. absurd (true≢false (sym (f .first c (s .from) less) ∙ same c ∙ s .nowhere))) (λ more. more);
+            λ c s. by-order c b (λ less. absurd (true≢false (sym (f .first c (s .from) less) ∙ same c ∙ s .nowhere)))
+            (λ more. more);
       };
       kind = (kind shadow b, m .kind-is (omega (arith, kind-fits stands b)) ∙ ap some kind-is, kind-by stands b stray);
     }))
@@ -155,11 +172,15 @@ reported r before x line a n touches =
     ⊎-elim
     (λ (bad : BadIn r before x a n). record {
       reported = (λ e. (bad .first .byte, bad .first .stray), λ s. bad .status-is);
-      passed = (λ e. absurd (omega (arith, one-status (bad .status-is) e)), λ none·. absurd (none· (bad .first .byte, bad .first .stray)));
+      passed = (
+        λ e. absurd (omega (arith, one-status (bad .status-is) e)),
+        λ none·. absurd (none· (bad .first .byte, bad .first .stray)),
+      );
       passed-value = λ e. absurd (omega (arith, one-status (bad .status-is) e));
     })
-    (λ (good : Passed (history before .live) x a n). record {
-      reported = (λ e. absurd (omega (arith, one-status (good .status-is) e)), λ s. absurd (good .none-stray (s .0) (s .1)));
+    (λ (good : Passed (live-at r before) x a n). record {
+      reported =
+          (λ e. absurd (omega (arith, one-status (good .status-is) e)), λ s. absurd (good .none-stray (s .0) (s .1)));
       passed = (λ e. λ s. good .none-stray (s .0) (s .1), λ none·. good .status-is);
       passed-value = λ e. good .value-is;
     })
@@ -169,7 +190,7 @@ pub first-bad-byte : FirstBadByte
 first-bad-byte r before x line a n touches e =
     ⊎-elim
     (λ (bad : BadIn r before x a n). bad .first)
-    (λ (good : Passed (history before .live) x a n). absurd (omega (arith, one-status (good .status-is) e)))
+    (λ (good : Passed (live-at r before) x a n). absurd (omega (arith, one-status (good .status-is) e)))
     (judged r before x line a n touches)
 
 pub kinds : Kinds
@@ -178,10 +199,10 @@ kinds r before x line a n touches is-bad b says-value =
     (λ (bad : BadIn r before x a n). (
       bad .kind .0,
       bad .kind .1,
-      subst (λ c. KindBy (length (r .shadow)) (history before .live) (latest (r .redzone) (r .quarantine) (history before .released)) c (bad .kind .0))
+      subst (λ c. KindBy (session r .granules) (live-at r before) (quarantine-at r before) c (bad .kind .0))
           (one-status (bad .first .value) says-value) (bad .kind .2),
     ))
-    (λ (good : Passed (history before .live) x a n). absurd (omega (arith, one-status (good .status-is) is-bad)))
+    (λ (good : Passed (live-at r before) x a n). absurd (omega (arith, one-status (good .status-is) is-bad)))
     (judged r before x line a n touches)
 
 -- bytes outside the arena lie in no block
@@ -193,31 +214,38 @@ outside-nowhere r b beyond =
 
 -- ---- two blocks
 
--- rows i and j are two, and the blocks of both have a byte among the n at a: the byte after the lower block's last lies in no live block
+-- rows i and j are two, and the blocks of both have a byte among the n at a: the byte after the lower block's last lies
+-- in no live block
 module _ {S R Q : ℕ} {shadow table : List ℕ} {h : History} (stands : Stands S R Q shadow table h) where
   -- a byte of row i's granules is in no other held row's block
-  one-row : (i j : ℕ) → Held table i → Held table j → i ≢ j → (b : ℕ) → granule * start table i ≤ b → b < granule * ends table i
+  one-row : (i j : ℕ) → Held table i → Held table j → i ≢ j → (b : ℕ) → granule * start table i ≤ b
+      → b < granule * ends table i
       → has-byte (of-row table j) b ≡ true → ⊥
   one-row i j hi hj differ b from below has =
-      let range : (granule * start table j ≤ b) × (b < granule * start table j + size table j) = has-byte-true (of-row table j) b has in
+      let range : (granule * start table j ≤ b) × (b < granule * start table j + size table j) =
+      has-byte-true (of-row table j) b has in
       ⊎-elim {C = ⊥}
       (λ left. omega (arith, range .0))
       (λ right. omega (arith, range .1, granules-enough (size table j)))
       (stands .standing .laid .apart i j hi hj differ)
 
   -- no byte of a quarantined row lies in a live block
-  quarantined-stray : (i : ℕ) → i < rows table → state table i ≡ quarantined → (b : ℕ) → has-byte (of-row table i) b ≡ true → lies-in (h .live) b ≡ false
+  quarantined-stray : (i : ℕ) → i < rows table → state table i ≡ quarantined → (b : ℕ)
+      → has-byte (of-row table i) b ≡ true → lies-in (h .live) b ≡ false
   quarantined-stray i below is b has =
       lies-in-not (h .live) b
       (λ x m has-x.
       let row : RowOf table live x = stands .standing .lives .row x m in
-      let range : (granule * start table i ≤ b) × (b < granule * start table i + size table i) = has-byte-true (of-row table i) b has in
+      let range : (granule * start table i ≤ b) × (b < granule * start table i + size table i) =
+      has-byte-true (of-row table i) b has in
       one-row i (row .0) (record { below = below; has = inr is }) (record { below = row .1; has = inl (row .2) })
-      (λ e. absurd (omega (arith, row .2, ap (state table) e))) b (range .0) (omega (arith, range .1, granules-enough (size table i)))
+      (λ e. absurd (omega (arith, row .2, ap (state table) e))) b (range .0)
+      (omega (arith, range .1, granules-enough (size table i)))
       (ap (λ y. has-byte y b) (row .3) ∙ has-x))
 
   -- nor does the byte after a live row's last
-  after-stray : (i : ℕ) → i < rows table → state table i ≡ live → lies-in (h .live) (granule * start table i + size table i) ≡ false
+  after-stray : (i : ℕ) → i < rows table → state table i ≡ live
+      → lies-in (h .live) (granule * start table i + size table i) ≡ false
   after-stray i below is =
       let own : Held table i = record { below = below; has = inl is } in
       let b : ℕ = granule * start table i + size table i in
@@ -245,18 +273,27 @@ module _ {S R Q : ℕ} {shadow table : List ℕ} {h : History} (stands : Stands 
     nowhere = after-stray i below is;
   }
 
-  two-rows : (i j a n b c : ℕ) → Held table i → Held table j → i ≢ j → a ≤ b → b < a + n → has-byte (of-row table i) b ≡ true
+  two-rows : (i j a n b c : ℕ) → Held table i → Held table j → i ≢ j → a ≤ b → b < a + n
+      → has-byte (of-row table i) b ≡ true
       → a ≤ c → c < a + n → has-byte (of-row table j) c ≡ true → (s : ℕ) × Stray (h .live) a n s
   two-rows i j a n b c hi hj differ from-b below-b has-b from-c below-c has-c =
-      let range : (granule * start table i ≤ b) × (b < granule * start table i + size table i) = has-byte-true (of-row table i) b has-b in
-      let range′ : (granule * start table j ≤ c) × (c < granule * start table j + size table j) = has-byte-true (of-row table j) c has-c in
+      let range : (granule * start table i ≤ b) × (b < granule * start table i + size table i) =
+      has-byte-true (of-row table i) b has-b in
+      let range′ : (granule * start table j ≤ c) × (c < granule * start table j + size table j) =
+      has-byte-true (of-row table j) c has-c in
       ⊎-elim
       (λ live-i.
       ⊎-elim
       (λ live-j.
       ⊎-elim
-      (λ left. (granule * start table i + size table i, between-stray i j a n b c (hi .below) live-i left from-b (range .1) (range′ .0) below-c))
-      (λ right. (granule * start table j + size table j, between-stray j i a n c b (hj .below) live-j right from-c (range′ .1) (range .0) below-b))
+      (λ left. (
+        granule * start table i + size table i,
+        between-stray i j a n b c (hi .below) live-i left from-b (range .1) (range′ .0) below-c,
+      ))
+      (λ right. (
+        granule * start table j + size table j,
+        between-stray j i a n c b (hj .below) live-j right from-c (range′ .1) (range .0) below-b,
+      ))
       (stands .standing .laid .apart i j hi hj differ))
       (λ is. (c, record { from = from-c; below = below-c; nowhere = quarantined-stray j (hj .below) is c has-c }))
       (hj .has))
@@ -265,49 +302,17 @@ module _ {S R Q : ℕ} {shadow table : List ℕ} {h : History} (stands : Stands 
 
 pub two-blocks : TwoBlocks
 two-blocks r before x line a n touches y z in-y in-z differ b c from-b below-b has-b from-c below-c has-c =
-    let m : Moment (HoldsOf r) (history before) x = line-moment r before x line in
+    let m : Moment (HoldsOf r) (history r before) x = line-moment r before x line in
     let table : List ℕ = m .st .pool .table in
     let first : (i : ℕ) × Held table i × (of-row table i ≡ y) = held-row (m .holds .stands) y in-y in
     let second : (j : ℕ) × Held table j × (of-row table j ≡ z) = held-row (m .holds .stands) z in-z in
     reported r before x line a n touches .reported .1
     (two-rows (m .holds .stands) (first .0) (second .0) a n b c (first .1) (second .1)
-    (λ e. differ (sym (first .2) ∙ ap (of-row table) e ∙ second .2)) from-b below-b (ap (λ w. has-byte w b) (first .2) ∙ has-b) from-c below-c
+    (λ e. differ (sym (first .2) ∙ ap (of-row table) e ∙ second .2)) from-b below-b
+    (ap (λ w. has-byte w b) (first .2) ∙ has-b) from-c below-c
     (ap (λ w. has-byte w c) (second .2) ∙ has-c))
 
 -- ---- a released block
-
--- a byte that lies in no live block lies in none until it is granted
-module _ (b : ℕ) where
-  done-stray : (h : History) (frame : Frame) (value : ℕ) → lies-in (h .live) b ≡ false
-      → ((s : ℕ) → frame ≡ Grant s → has-byte (block value (counted s)) b ≡ true → ⊥) → lies-in (done h frame value .live) b ≡ false
-  unfolding done
-  done-stray h (Grant s) value nowhere not-granted =
-      lies-in-not (block value (counted s) ∷ h .live) b
-      (λ x m has.
-      ⊎-elim {C = ⊥}
-      (λ e. not-granted s refl (ap (λ y. has-byte y b) (sym e) ∙ has))
-      (λ later. true≢false (sym (lies-in-is (h .live) b x later has) ∙ nowhere))
-      (List·Memᴰ·cases-cons m))
-  done-stray h (Release a) value nowhere not-granted =
-      lies-in-not (others a (h .live)) b
-      (λ x m has. true≢false (sym (lies-in-is (h .live) b x (others-of a (h .live) x m .0) has) ∙ nowhere))
-  done-stray h (Read a n) value nowhere not-granted = nowhere
-  done-stray h (Write a n) value nowhere not-granted = nowhere
-  done-stray h (Refused answer) value nowhere not-granted = nowhere
-
-  heard-stray : (h : History) (log : List Exchange) → lies-in (h .live) b ≡ false → ((z : Exchange) → z ∈ log → Grants z b → ⊥)
-      → lies-in (heard-all h log .live) b ≡ false
-  unfolding heard-all
-  heard-stray h [] nowhere not-granted = nowhere
-  heard-stray h (x ∷ log) nowhere not-granted =
-      heard-stray (heard h x) log
-      (by-heard h x (λ g. lies-in (g .live) b ≡ false) nowhere
-      (λ value says-status says-value.
-      done-stray h (asks x) value nowhere
-      (λ s e has.
-      not-granted x (List·Memᴰ·head refl)
-      (record { size = s; address = value; asked = e; done = says-status; value = says-value; has = has }))))
-      (λ z m. not-granted z (List·Memᴰ·tail m))
 
 -- once a block is released, no other live block has a byte of it
 others-stray : {S R Q : ℕ} {shadow table : List ℕ} {h : History} → Stands S R Q shadow table h
@@ -320,26 +325,78 @@ others-stray {table = table} {h = h} stands y in-y b has-b =
     (λ z in-z has-z.
     let other : (z ∈ h .live) × (z .address ≢ y .address) = others-of (y .address) (h .live) z in-z in
     let row′ : RowOf table live z = stands .standing .lives .row z (other .0) in
-    one-row stands (row .0) (row′ .0) (record { below = row .1; has = inl (row .2) }) (record { below = row′ .1; has = inl (row′ .2) })
-    (λ e. other .1 (ap (λ w. w .address) (sym (row′ .3)) ∙ ap (λ k. granule * start table k) (sym e) ∙ ap (λ w. w .address) (row .3))) b
+    one-row stands (row .0) (row′ .0) (record { below = row .1; has = inl (row .2) })
+    (record { below = row′ .1; has = inl (row′ .2) })
+    (λ e.
+    other .1
+    (ap (λ w. w .address) (sym (row′ .3)) ∙ ap (λ k. granule * start table k) (sym e) ∙ ap (λ w. w .address) (row .3))) b
     (range .0) (omega (arith, range .1, granules-enough (size table (row .0))))
     (ap (λ w. has-byte w b) (row′ .3) ∙ has-z))
 
+-- nor has what the line that releases it grants: it keeps clear of what is held then
+module _ (r : Replay) (before : List Exchange) (gone : Exchange) (line : Line r before gone) (y : Block)
+    (in-y : y ∈ live-at r before) (b : ℕ) (has-b : has-byte y b ≡ true) where
+  others-left : lies-in (others (y .address) (live-at r before)) b ≡ false
+  others-left = others-stray (line-moment r before gone line .holds .stands) y in-y b has-b
+
+  granted-apart : (w : Block) → Granted w ∈ events gone → has-byte w b ≡ false
+  unfolding held
+  granted-apart w in-w =
+      let g : DidGrant gone w = granted-by gone w in-w in
+      let p = placement r before gone line .lowest (g .status-is) (g .size) (g .sought) in
+      let in-held : y ∈ held-at r before = Memᴰ·append-left (quarantine-at r before) in-y in
+      by-test (has-byte w b)
+      (λ has-w.
+      absurd
+      (true≢false
+      (sym has-b
+      ∙ apart-bytes (session r .redzone) (block (granule * p .place) (g .size)) y (p .room .apart y in-held) b
+      (ap (λ z. has-byte z b) (sym (p .only w in-w)) ∙ has-w))))
+      (λ not. not)
+
+  released-stray : Released (y .address) ∈ events gone → lies-in (heard (history r before) gone .live) b ≡ false
+  unfolding heard happen happens
+  released-stray is-released =
+      let h : History = history r before in
+      let m : Moment (HoldsOf r) h gone = line-moment r before gone line in
+      let value : ℕ = in-numbers (act-line watcher (m .st) .answer) .value in
+      let by : (seeks gone .block ≡ some (y .address)) × (status-of gone ≡ some 0) =
+      released-by gone (y .address) is-released in
+      let done : events gone ≡ did (seeks gone) value = events-done gone value (by .1) (m .value-is) in
+      by-found (seeks gone .room)
+      (λ s room.
+      let both : events gone ≡ Granted (block value s) ∷ Released (y .address) ∷ [] =
+      done ∙ did-both (seeks gone) value s (y .address) room (by .0) in
+      let apart : has-byte (block value s) b ≡ false =
+      granted-apart (block value s) (subst (λ es. Granted (block value s) ∈ es) (sym both) (List·Memᴰ·head refl)) in
+      ap (λ es. lies-in (happen h es .live) b) both
+      ∙ lies-in-not (others (y .address) (block value s ∷ h .live)) b
+      (λ z in-z has-z.
+      let other : (z ∈ (block value s ∷ h .live)) × (z .address ≢ y .address) =
+      others-of (y .address) (block value s ∷ h .live) z in-z in
+      ⊎-elim {C = ⊥}
+      (λ e. true≢false (sym has-z ∙ ap (λ w. has-byte w b) e ∙ apart))
+      (λ later.
+      true≢false
+      (sym (lies-in-is (others (y .address) (h .live)) b z (others-in (y .address) (h .live) z later (other .1)) has-z)
+      ∙ others-left))
+      (List·Memᴰ·cases-cons (other .0))))
+      (λ no-room.
+      ap (λ es. lies-in (happen h es .live) b) (done ∙ did-alone (seeks gone) value (y .address) no-room (by .0))
+      ∙ others-left)
+
 pub until-granted : UntilGranted
-unfolding history heard-all done
-until-granted r before between gone x line c asks-release is-done y in-y at-c b has-b not-granted a n touches from below =
+unfolding history heard-all
+until-granted r before between gone x line y in-y is-released b has-b not-granted a n touches from below =
     let before-gone : Line r before gone = record {
       after = between ++ (x ∷ line .after);
       is = line .is ∙ append-assoc before (gone ∷ between) (x ∷ line .after);
     } in
-    let m : Moment (HoldsOf r) (history before) gone = line-moment r before gone before-gone in
-    let h : History = history before in
-    let v : ℕ = in-numbers (act-line watcher (m .st) .answer) .value in
-    let released : heard h gone ≡ done h (Release c) v =
-    heard-done h gone v is-done (m .value-is) ∙ ap (λ frame. done h frame v) asks-release in
-    let left : lies-in (others c (h .live)) b ≡ false =
-    subst (λ d. lies-in (others d (h .live)) b ≡ false) at-c (others-stray (m .holds .stands) y in-y b has-b) in
-    let stray : lies-in (history (before ++ (gone ∷ between)) .live) b ≡ false =
-    ap (λ g. lies-in (g .live) b) (heard-append nothing-yet before (gone ∷ between))
-    ∙ heard-stray b (heard h gone) between (ap (λ g. lies-in (g .live) b) released ∙ left) not-granted in
-    reported r (before ++ (gone ∷ between)) x line a n touches .reported .1 (b, record { from = from; below = below; nowhere = stray })
+    let left : lies-in (heard (history r before) gone .live) b ≡ false =
+    released-stray r before gone before-gone y in-y b has-b is-released in
+    let stray : lies-in (live-at r (before ++ (gone ∷ between))) b ≡ false =
+    ap (λ g. lies-in (g .live) b) (heard-append (r .earlier) before (gone ∷ between))
+    ∙ heard-stray b between (heard (history r before) gone) left
+    (λ z m w in-w has-w. not-granted z m (w, in-w, has-w)) in
+    reported r (before ++ (gone ∷ between)) x line a n touches .reported .1
+    (b, record { from = from; below = below; nowhere = stray })

@@ -11,7 +11,7 @@ use lib.Dec.{leb}
 use borrow.Author.Tests.{leb-true, le-leb, ltb-true, lt-ltb, eq-eqb, ne-eqb}
 use Rattle.rules.proofs.Tests.{both, join, by-test}
 use Rattle.promises.specs.History.{Block, has-byte, lies-in, at, others}
-use Rattle.promises.specs.Rows.{_∈_}
+use Rattle.promises.specs.Rows.{_∈_, Distinct}
 
 -- ---- the bytes of a block
 
@@ -139,10 +139,6 @@ others-none a (x ∷ blocks) nowhere =
     others-later a x blocks (nowhere x (List·Memᴰ·head refl)) ∙ ap (λ l. x ∷ l) (others-none a blocks (λ y m. nowhere y (List·Memᴰ·tail m)))
 
 -- ---- no two of the blocks start at one address
-
-unfoldable pub Distinct : List Block → Type 0
-Distinct [] = Unit {0}
-Distinct (x ∷ blocks) = ((y : Block) → y ∈ blocks → y .address ≢ x .address) × Distinct blocks
 
 -- none are so; and one more, where none of them starts at its address
 pub distinct-nil : Distinct []

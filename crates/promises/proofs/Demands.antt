@@ -2,12 +2,14 @@
 use Rattle.rules.specs.Watcher.{watcher}
 use Rattle.rules.proofs.Calls.{watcher-keeps}
 use Rattle.promises.specs.Demands.{Demand1, Demand2, Demand3, Beyond}
-use Rattle.promises.proofs.Replay.{every-line, same-report}
+use Rattle.promises.proofs.Replay.{every-line}
+use Rattle.promises.proofs.Beginning.{openings, begins-again, same-report}
 use Rattle.promises.proofs.Total.{total, refusals-keep}
 use Rattle.promises.proofs.Published.{shadow-bytes, verdicts, places, map-of-32-bits, map-of-64-bits}
 use Rattle.promises.proofs.Cutting.{cutting, stops-early, goes-on, finishes, so-far}
 use Rattle.promises.proofs.Accesses.{reported, first-bad-byte, outside-nowhere, kinds, two-blocks, until-granted}
-use Rattle.promises.proofs.Held.{separation, quarantine, not-again, heavier, never-evicts, evicted, placement, releases, releases-nothing}
+use Rattle.promises.proofs.Quarantine.{separation, quarantine, not-again, heavier, never-evicts, evicted}
+use Rattle.promises.proofs.Sought.{releases, placement, all-sought, releases-nothing}
 use Rattle.promises.proofs.Shape.{shape, rows-are-blocks, encoding}
 use Rattle.promises.proofs.Direct.{direct-calls}
 
@@ -29,6 +31,7 @@ demand-3 = record {
   stopped-early = stops-early watcher;
   goes-on = goes-on watcher watcher-keeps;
   finishes = finishes watcher watcher-keeps;
+  from-an-opening = openings;
   every-line = every-line;
   reported = reported;
   first-bad-byte = first-bad-byte;
@@ -43,8 +46,9 @@ beyond = record {
   heavier-leaves = heavier;
   a-grant-never-evicts = never-evicts;
   evicted-count = evicted;
-  placement = placement;
   releases = releases;
+  placement = placement;
+  all-sought = all-sought;
   address-0 = releases-nothing;
   shape = shape;
   rows-are-blocks = rows-are-blocks;
@@ -54,5 +58,6 @@ beyond = record {
   two-blocks-reported = two-blocks;
   reported-until-granted = until-granted;
   answers-so-far = so-far watcher;
+  begins-again = begins-again;
   same-report = same-report;
 }

@@ -20,6 +20,7 @@ use Rattle.rules.proofs.Put.{Each}
 use Rattle.rules.proofs.Frames.{length-digits, frame-written, frame-grant, frame-release, frame-read, frame-write, with-zero-is, line-whole}
 use Rattle.rules.proofs.Feed.{SameNumbers, Quiet, run-append, run-numbers, run-quiet}
 use Rattle.rules.proofs.Calls.{grant-as-frame, release-as-frame, access-as-frame}
+use Rattle.promises.specs.Replay.{Idle}
 use Rattle.promises.specs.Direct.{line-of, told-as, DirectCalls}
 use Rattle.promises.proofs.Lines.{digit-no-feed, Spells, spells-none, spells-more, spells-asks}
 use Rattle.promises.proofs.Replay.{run-feed, run-byte}

@@ -4,7 +4,7 @@ use native.Mathlib.Nat.{add-zero}
 use native.Mathlib.Decide.{ℕ-discrete}
 use native.Mathlib.Omega.{arith}
 use mathlib.Core.Path.{_≡_, refl, sym, ap, subst, _∙_}
-use mathlib.Core.Logic.{_⊎_, inl, inr, ⊎-elim}
+use mathlib.Core.Logic.{_≢_, _⊎_, inl, inr, ⊎-elim}
 use mathlib.Core.Bool.{Bool, true, false, _&&_, true≢false, _||_}
 use mathlib.Core.Option.{none, some}
 use mathlib.Core.List.{List}
@@ -12,9 +12,9 @@ use lib.ListN.{length, getD}
 use lib.Seq.{ext-getD}
 use lib.Dec.{eqb, leb, ltb}
 use borrow.Author.Tests.{eqb-true, eq-eqb, ne-eqb, leb-true, le-leb, ltb-true, lt-ltb}
-use Rattle.rules.specs.Limits.{granule, redzone-byte, released-byte, live, quarantined}
+use Rattle.rules.specs.Limits.{granule, row-numbers, redzone-byte, released-byte, empty, live, quarantined}
 use Rattle.rules.specs.Lowest.{lowest}
-use Rattle.rules.specs.Table.{rows, start, size, state}
+use Rattle.rules.specs.Table.{column, rows, start, size, state, turn}
 use Rattle.rules.specs.Shadow.{leading, negative, shadow-of, addressable}
 use Rattle.rules.specs.Grant.{granules, granted}
 use Rattle.rules.proofs.Tests.{by-found, by-order, by-test, both, join, if-true, if-false}
@@ -85,6 +85,21 @@ by-granule table g P one nothing =
         by-order g (ends table i)
         (λ below. absurd (true≢false (sym (over-covers table g i (record { held = h; from = from; below = below })) ∙ e)))
         (λ right. inr right))
+
+-- one held row at most is over a granule
+over-one : (R : ℕ) {table : List ℕ}
+    → ((i j : ℕ) → Held table i → Held table j → i ≢ j → (ends table i + R ≤ start table j) ⊎ (ends table j + R ≤ start table i))
+    → (g i j : ℕ) → Over table g i → Over table g j → i ≡ j
+over-one R apart g i j o o′ =
+    elim (ℕ-discrete i j) [
+      | yes e ↦ e
+      | no differ ↦
+          absurd
+          (⊎-elim {C = ⊥}
+          (λ left. omega (arith, o .below, o′ .from))
+          (λ right. omega (arith, o′ .below, o .from))
+          (apart i j (o .held) (o′ .held) differ))
+    ]
 
 -- ---- the shadow that a table draws
 
@@ -190,19 +205,6 @@ module _ {S R : ℕ} {shadow table : List ℕ} (laid : Laid S R shadow table) wh
       let v : getD (granted s) k 0 ≡ s % granule = ap (λ m. getD (granted s) m 0) is-last ∙ granted-last s in
       subst (λ m. leading m ≤ b % granule) (sym v) (omega (arith, granules-least s, leading-first (s % granule) (omega (arith, granules-least s)) (omega arith)))
 
-  -- one held row at most is over a granule
-  over-one : (g i j : ℕ) → Over table g i → Over table g j → i ≡ j
-  over-one g i j o o′ =
-      elim (ℕ-discrete i j) [
-        | yes e ↦ e
-        | no differ ↦
-            absurd
-            (⊎-elim {C = ⊥}
-            (λ left. omega (arith, o .below, o′ .from))
-            (λ right. omega (arith, o′ .below, o .from))
-            (laid .apart i j (o .held) (o′ .held) differ))
-      ]
-
   -- a byte that lies in a live block is over that block's row
   lies-row : (blocks : List Block) → LiveRows table blocks → (b : ℕ) → lies-in blocks b ≡ true
       → (j : ℕ) × Over table (b / granule) j × (state table j ≡ live) × (b < granule * start table j + size table j)
@@ -262,7 +264,7 @@ module _ {S R : ℕ} {shadow table : List ℕ} (laid : Laid S R shadow table) wh
           (not-lies blocks b
           (λ lies.
           let l = lies-row blocks lives b lies in
-          let same : l .0 ≡ i = over-one (b / granule) (l .0) i (l .1) o in
+          let same : l .0 ≡ i = over-one R (laid .apart) (b / granule) (l .0) i (l .1) o in
           omega (arith, l .3, ap (start table) same, ap (size table) same))))
 
       of-quarantined-row : (i : ℕ) → Over table (b / granule) i → state table i ≡ quarantined → addressable shadow b ≡ lies-in blocks b
@@ -277,5 +279,58 @@ module _ {S R : ℕ} {shadow table : List ℕ} (laid : Laid S R shadow table) wh
           (not-lies blocks b
           (λ lies.
           let l = lies-row blocks lives b lies in
-          let same : l .0 ≡ i = over-one (b / granule) (l .0) i (l .1) o in
+          let same : l .0 ≡ i = over-one R (laid .apart) (b / granule) (l .0) i (l .1) o in
           omega (arith, l .2, ap (state table) same)))
+
+-- ---- and back: what a table draws lies as its rows do, where they lie apart
+
+-- a granule of a row is not off it
+over-not-off : (table : List ℕ) (g i : ℕ) → Over table g i → Off table i g → ⊥
+over-not-off table g i o =
+    ⊎-elim {C = ⊥} (λ left. omega (arith, o .from)) (λ right. omega (arith, o .below))
+
+module _ (S R : ℕ) {table : List ℕ} (high : (i : ℕ) → Held table i → ends table i + R ≤ S)
+    (apart : (i j : ℕ) → Held table i → Held table j → i ≢ j → (ends table i + R ≤ start table j) ⊎ (ends table j + R ≤ start table i)) where
+  drawn-here : (g : ℕ) → g < S → getD (drawn table S 0) g 0 ≡ drawn-byte table g
+  drawn-here g in-arena = getD-drawn table S 0 g in-arena ∙ ap (drawn-byte table) (let e : 0 + g ≡ g = omega arith in e)
+
+  drawn-over : (g i : ℕ) → Over table g i → getD (drawn table S 0) g 0 ≡ painted table g i
+  drawn-over g i o =
+      drawn-here g (omega (arith, high i (o .held), o .below))
+      ∙ by-granule table g (drawn-byte table g ≡ painted table g i)
+      (λ j e o′. drawn-row table g j e ∙ ap (painted table g) (over-one R apart g j i o′ o))
+      (λ e off. absurd (over-not-off table g i o (off i (o .held))))
+
+  pub drawn-laid :
+      ((i : ℕ) → i < rows table → (state table i ≡ empty) ⊎ ((state table i ≡ live) ⊎ (state table i ≡ quarantined)))
+      → ((i : ℕ) → i < rows table → state table i ≡ empty → (k : ℕ) → k < row-numbers → column k table i ≡ 0)
+      → ((i : ℕ) → i < rows table → state table i ≡ live → turn table i ≡ 0)
+      → ((i : ℕ) → Held table i → 0 < size table i) → ((i : ℕ) → Held table i → R ≤ start table i)
+      → Laid S R (drawn table S 0) table
+  drawn-laid states zeros live-turn sized low = record {
+    of-shadow = length-drawn table S 0;
+    states = states;
+    zeros = zeros;
+    live-turn = live-turn;
+    sized = sized;
+    low = low;
+    high = high;
+    apart = apart;
+    of-live = λ i below is k in-row.
+        let over : Over table (start table i + k) i = record {
+          held = record { below = below; has = inl is };
+          from = omega arith;
+          below = omega arith;
+        } in
+        drawn-over (start table i + k) i over
+        ∙ painted-live table (start table i + k) i is
+        ∙ ap (λ m. getD (granted (size table i)) m 0) (let e : start table i + k - start table i ≡ k = omega arith in e);
+    of-quarantined = λ i below is g from upto.
+        drawn-over g i (record { held = record { below = below; has = inr is }; from = from; below = upto })
+        ∙ painted-quarantined table g i is;
+    of-none = λ g in-arena off.
+        drawn-here g in-arena
+        ∙ by-granule table g (drawn-byte table g ≡ redzone-byte)
+        (λ j e o. absurd (over-not-off table g j o (off j (o .held))))
+        (λ e off′. drawn-none table g e);
+  }

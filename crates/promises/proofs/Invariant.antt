@@ -1,5 +1,4 @@
--- The invariant: what stands in shadow and table is what the history says. An opening has it, and every byte of a text keeps it; so it
--- holds after every replay, and at the moment at which a line is answered. Assumes nothing.
+-- The invariant: what stands in shadow and table is what the history says, and every byte of a text keeps it. Assumes nothing.
 use Prim.Native.Nat.{ℕ, _*_, _/_, _≤_, _<_}
 use native.Mathlib.Omega.{arith}
 use mathlib.Core.Path.{_≡_, refl, sym, ap, subst, _∙_}
@@ -8,33 +7,33 @@ use mathlib.Core.List.{List, [], _∷_, _++_, List·Memᴰ·append-cases, Memᴰ
 use lib.ListN.{length, replicate, length-replicate, length-append}
 use borrow.Author.Tests.{eqb-true}
 use Rattle.rules.specs.declared.Session.{Session}
+use Rattle.rules.specs.declared.Answer.{Answer}
+use Rattle.rules.specs.declared.Answer.the-variants.{Done}
 use Rattle.rules.specs.declared.Frame.{Frame}
 use Rattle.rules.specs.declared.Frame.the-variants.{Grant, Release, Read, Write, Refused}
-use Rattle.rules.specs.Limits.{granule, state-column, row-numbers, least-redzone, most-redzone, empty, live, quarantined, redzone-byte}
+use Rattle.rules.specs.Limits.{granule, row-numbers, least-redzone, most-redzone, empty, live, quarantined, redzone-byte}
 use Rattle.rules.specs.Table.{rows, state, start, is-empty}
 use Rattle.rules.specs.Answers.{in-numbers, status}
-use Rattle.rules.specs.Grant.{Acted, counted, granules, grant-at, grant}
+use Rattle.rules.specs.Grant.{Acted, unchanged, counted, granules, grant-at, grant}
 use Rattle.rules.specs.Release.{Pool, quarantine-row, settle, release-row, release}
 use Rattle.rules.specs.Feed.{State, emptied, lengthened, act-line, finish, hold}
 use Rattle.rules.specs.Watcher.{act, watcher}
 use Rattle.rules.specs.Calls.{LentState}
-use Rattle.rules.proofs.Tests.{between-is}
 use Rattle.rules.proofs.Lowest.{Lowest, below-all}
 use Rattle.rules.proofs.Table.{rows-same}
 use Rattle.rules.proofs.Grant.{counted-least, place-some, empty-row-some, by-grant}
 use Rattle.rules.proofs.Release.{StartsAt, row-at-some, by-release}
 use Rattle.rules.proofs.Feed.{SameNumbers, lengthened-numbers}
 use Rattle.rules.proofs.Watcher.{act-lengths}
-use Rattle.promises.specs.History.{Exchange, Block, at, History, nothing-yet, done, history, latest, held}
-use Rattle.promises.specs.Replay.{Replay, opened, ran, Line, happened}
-use Rattle.promises.specs.Rows.{_∈_, Held, of-row, RowOf}
-use Rattle.promises.proofs.History.{told, told-same}
-use Rattle.promises.proofs.Replay.{asked, Moment, opened-lent, replay-has, moment, fresh-state, opened-is}
-use Rattle.promises.proofs.Blocks.{at-one, at-none, others-none}
-use Rattle.promises.proofs.Kept.{zero-column, laid-opening}
-use Rattle.promises.proofs.Standing.{in-use-none, live-none, Standing, standing-grant, standing-quarantine, standing-settle, in-use}
+use Rattle.promises.specs.History.{Block, at, sought-by, nothing-sought, Released, grants-at, releases-at, did}
+use Rattle.promises.specs.History.{History, happens, happen, latest, held}
+use Rattle.promises.specs.Rows.{_∈_, Held, of-row, RowOf, in-use}
+use Rattle.promises.proofs.History.{told, told-done, told-nothing, did-release, release-seeks-nothing}
+use Rattle.promises.proofs.Replay.{asked}
+use Rattle.promises.proofs.Blocks.{at-one}
+use Rattle.promises.proofs.Standing.{Standing, standing-grant, standing-quarantine, standing-settle}
 use Rattle.promises.proofs.Latest.{latest-again}
-use Rattle.promises.proofs.Queue.{Queue, queue-none, queue-put, queue-quarantine, queue-settle, queue-row, queue-block}
+use Rattle.promises.proofs.Queue.{Queue, queue-put, queue-quarantine, queue-settle, queue-row, queue-block}
 
 -- shadow and table as a history has them: the rows lie a redzone apart and draw the shadow, the live ones are the blocks granted and not
 -- yet released, so many rows are in use (`Standing`); and the quarantined ones, by their turns, are the longest run of latest releases
@@ -46,12 +45,12 @@ pub record Stands (S R Q : ℕ) (shadow table : List ℕ) (h : History) : Type 0
 
 -- what a line or a direct call leaves, with its answer heard
 abbrev Leaves : ℕ → ℕ → ℕ → History → Frame → Acted → Type 0
-Leaves S R Q h frame acted = Stands S R Q (acted .shadow) (acted .table) (told h frame (acted .answer))
+Leaves S R Q h frame acted = Stands S R Q (acted .shadow) (acted .table) (happen h (told frame (acted .answer)))
 
 module _ {S R Q : ℕ} {shadow table : List ℕ} {h : History} (stands : Stands S R Q shadow table h) where
   -- a grant
   stands-grant : (s : ℕ) → Leaves S R Q h (Grant s) (grant R shadow table s)
-  unfolding told done status in-numbers grant-at
+  unfolding told sought-by grants-at releases-at did happens happen status in-numbers grant-at
   stands-grant s =
       by-grant R shadow table s (Leaves S R Q h (Grant s)) (λ full. stands) (λ i row nowhere. stands)
       (λ i p row at-place.
@@ -63,14 +62,6 @@ module _ {S R Q : ℕ} {shadow table : List ℕ} {h : History} (stands : Stands 
         standing = standing-grant (stands .standing) i (counted s) p below is (counted-least s) (place-some shadow R (granules (counted s)) p at-place .fits);
         queue = queue-put R table (latest R Q (h .released)) i p (counted s) below (λ e. absurd (omega arith)) (stands .queue);
       })
-
-  -- no live block is at address 0
-  pub none-at-zero : (x : Block) → x ∈ h .live → x .address ≢ 0
-  none-at-zero x m e =
-      let row : RowOf table live x = stands .standing .lives .row x m in
-      let low : R ≤ start table (row .0) = stands .standing .laid .low (row .0) (record { below = row .1; has = inl (row .2) }) in
-      let at-zero : granule * start table (row .0) ≡ 0 = ap (λ y. y .address) (row .3) ∙ e in
-      omega (arith, stands .above)
 
   -- live row i, at a, is released: once all evictions are done, what is quarantined is the longest run of the releases with it
   pub released-queue : (i a : ℕ) → StartsAt live table a i
@@ -87,40 +78,46 @@ module _ {S R Q : ℕ} {shadow table : List ℕ} {h : History} (stands : Stands 
 
   -- a release
   stands-release : (a : ℕ) → Leaves S R Q h (Release a) (release R Q shadow table a)
-  unfolding told done status in-numbers release-row
+  unfolding told happens happen status in-numbers release-row
   stands-release a =
       by-release R Q shadow table a (Leaves S R Q h (Release a))
       (λ e.
-      subst (λ l. Stands S R Q shadow table (record { live = l; released = at a (h .live) ++ h .released }))
-      (sym (others-none a (h .live) (nowhere e)))
-      (subst (λ l. Stands S R Q shadow table (record { live = h .live; released = l ++ h .released })) (sym (at-none a (h .live) (nowhere e))) stands))
+      subst (λ c. Leaves S R Q h (Release c) (unchanged (Done 0) shadow table)) (sym e)
+      (subst (λ es. Stands S R Q shadow table (happen h es)) (sym (told-nothing (Release 0) (Done 0) release-seeks-nothing)) stands))
       (λ above no-live no-quarantined. stands)
       (λ above no-live i e. stands)
       (λ above i e.
       let pool : Pool = record { shadow = shadow; table = table } in
       let s : StartsAt live table a i = row-at-some live table a i e in
-      record {
+      let acted : Acted = release-row R Q pool i in
+      subst (λ es. Stands S R Q (acted .shadow) (acted .table) (happen h es)) (sym (told-done (Release a) (acted .answer) refl ∙ did-release a _ above))
+      (record {
         above = stands .above;
         standing = standing-settle Q (quarantine-row pool i) (standing-quarantine pool (stands .standing) i a (s .below) (s .has) (s .at));
         queue = released-queue i a s;
-      })
-    where
-      nowhere : a ≡ 0 → (x : Block) → x ∈ h .live → x .address ≢ a
-      nowhere e x m f = none-at-zero x m (f ∙ e)
+      }))
+
+-- a line that seeks nothing and leaves shadow and table as they were
+nothing-happens : {S : ℕ} (session : Session) (shadow table : List ℕ) (h : History) (frame : Frame) (answer : Answer)
+    → sought-by frame ≡ nothing-sought → Stands S (session .redzone) (session .quarantine) shadow table h
+    → Leaves S (session .redzone) (session .quarantine) h frame (unchanged answer shadow table)
+unfolding happen
+nothing-happens {S} session shadow table h frame answer nothing stands =
+    subst (λ es. Stands S (session .redzone) (session .quarantine) shadow table (happen h es)) (sym (told-nothing frame answer nothing)) stands
 
 -- a line, whatever it asks
 stands-act : {S : ℕ} (session : Session) (shadow table : List ℕ) (h : History) (frame : Frame)
     → Stands S (session .redzone) (session .quarantine) shadow table h
     → Leaves S (session .redzone) (session .quarantine) h frame (act session shadow table frame)
-unfolding act done
+unfolding act sought-by
 stands-act session shadow table h (Grant s) stands = stands-grant stands s
 stands-act session shadow table h (Release a) stands = stands-release stands a
-stands-act {S} session shadow table h (Read a n) stands =
-    subst (Stands S (session .redzone) (session .quarantine) shadow table) (sym (told-same h (Read a n) _ (λ v. refl))) stands
-stands-act {S} session shadow table h (Write a n) stands =
-    subst (Stands S (session .redzone) (session .quarantine) shadow table) (sym (told-same h (Write a n) _ (λ v. refl))) stands
-stands-act {S} session shadow table h (Refused answer) stands =
-    subst (Stands S (session .redzone) (session .quarantine) shadow table) (sym (told-same h (Refused answer) answer (λ v. refl))) stands
+stands-act session shadow table h (Read a n) stands =
+    nothing-happens session shadow table h (Read a n) _ refl stands
+stands-act session shadow table h (Write a n) stands =
+    nothing-happens session shadow table h (Write a n) _ refl stands
+stands-act session shadow table h (Refused answer) stands =
+    nothing-happens session shadow table h (Refused answer) answer refl stands
 
 -- ---- held blocks and held rows
 
@@ -155,7 +152,7 @@ module _ {S R Q : ℕ} {shadow table : List ℕ} {h : History} (stands : Stands 
 
 -- ---- states
 
--- the same of a state, with the opening's numbers: S, the rows, R and Q
+-- the same of a state, with the numbers of the session that it began with: S, the rows, R and Q
 pub record Holds (S n R Q : ℕ) (st : State Pool) (h : History) : Type 0 where
   pub redzone : st .session .redzone ≡ R
   pub quarantine : st .session .quarantine ≡ Q
@@ -164,7 +161,7 @@ pub record Holds (S n R Q : ℕ) (st : State Pool) (h : History) : Type 0 where
 
 module _ (S n R Q : ℕ) where
   -- a byte that is no line feed keeps it
-  on-byte : (st : State Pool) (h : History) (b : ℕ) → Holds S n R Q st h → Holds S n R Q (hold st b .state) h
+  pub on-byte : (st : State Pool) (h : History) (b : ℕ) → Holds S n R Q st h → Holds S n R Q (hold st b .state) h
   unfolding hold
   on-byte st h b holds =
       let same : SameNumbers (st .session) (lengthened (st .session) b) = lengthened-numbers (st .session) b in
@@ -176,7 +173,7 @@ module _ (S n R Q : ℕ) where
       }
 
   -- and so does a line feed, with the answer heard
-  on-line : (st : State Pool) (h : History) → LentState st → Holds S n R Q st h → Holds S n R Q (finish watcher st .state) (told h (asked st) (act-line watcher st .answer))
+  pub on-line : (st : State Pool) (h : History) → LentState st → Holds S n R Q st h → Holds S n R Q (finish watcher st .state) (happen h (told (asked st) (act-line watcher st .answer)))
   unfolding finish emptied act-line
   on-line st h lent holds =
       let acted : Acted = act (st .session) (st .pool .shadow) (st .pool .table) (asked st) in
@@ -185,59 +182,9 @@ module _ (S n R Q : ℕ) where
         quarantine = holds .quarantine;
         of-rows = rows-same (acted .table) (st .pool .table) (act-lengths (st .session) (st .pool .shadow) (st .pool .table) (asked st) .1) ∙ holds .of-rows;
         stands =
-            subst (λ Q′. Stands S R Q′ (acted .shadow) (acted .table) (told h (asked st) (acted .answer))) (holds .quarantine)
-            (subst (λ R′. Stands S R′ (st .session .quarantine) (acted .shadow) (acted .table) (told h (asked st) (acted .answer))) (holds .redzone)
+            subst (λ Q′. Stands S R Q′ (acted .shadow) (acted .table) (happen h (told (asked st) (acted .answer)))) (holds .quarantine)
+            (subst (λ R′. Stands S R′ (st .session .quarantine) (acted .shadow) (acted .table) (happen h (told (asked st) (acted .answer)))) (holds .redzone)
             (stands-act (st .session) (st .pool .shadow) (st .pool .table) h (asked st)
             (subst (λ Q′. Stands S (st .session .redzone) Q′ (st .pool .shadow) (st .pool .table) h) (sym (holds .quarantine))
             (subst (λ R′. Stands S R′ Q (st .pool .shadow) (st .pool .table) h) (sym (holds .redzone)) (holds .stands)))));
       }
-
--- ---- from an opening
-
--- of a replay: S, the rows, R and Q
-abbrev pub HoldsOf : Replay → State Pool → History → Type 0
-HoldsOf r = Holds (length (r .shadow)) (length (r .table) / row-numbers) (r .redzone) (r .quarantine)
-
--- no row of an opening is held
-stands-opening : (S R Q n : ℕ) → 0 < R → Stands S R Q (replicate S redzone-byte) (replicate n 0) nothing-yet
-unfolding latest
-stands-opening S R Q n above =
-    let state-zero : (i : ℕ) → state (replicate n 0) i ≡ empty = zero-column n state-column in
-    let none-live : (i : ℕ) → i < rows (replicate n 0) → state (replicate n 0) i ≢ live = λ i below e. absurd (omega (arith, state-zero i)) in
-    let none-quarantined : (i : ℕ) → i < rows (replicate n 0) → state (replicate n 0) i ≢ quarantined = λ i below e. absurd (omega (arith, state-zero i)) in
-    let queue : Queue R (replicate n 0) [] = queue-none R (replicate n 0) none-quarantined in
-    record {
-      above = above;
-      standing = record {
-        laid = laid-opening S R n;
-        lives = live-none (replicate n 0) none-live;
-        used = omega (arith, in-use-none (replicate n 0) (λ i below. state-zero i), queue .count);
-      };
-      queue = queue;
-    }
-
-holds-opening : (r : Replay) → HoldsOf r (opened r) nothing-yet
-unfolding rows
-holds-opening r =
-    let lent : LentState (opened r) = opened-lent r in
-    let is : opened r ≡ fresh-state (length (r .shadow)) (length (r .table)) (r .redzone) (r .quarantine) = opened-is r in
-    subst (λ st. HoldsOf r st nothing-yet) (sym is)
-    (record {
-      redzone = refl;
-      quarantine = refl;
-      of-rows = rows-replicate (length (r .table));
-      stands =
-          stands-opening (length (r .shadow)) (r .redzone) (r .quarantine) (length (r .table))
-          (omega (arith, between-is least-redzone most-redzone (opened r .session .redzone) (lent .within .redzone) .0, ap (λ st. st .session .redzone) is));
-    })
-  where
-    rows-replicate : (n : ℕ) → rows (replicate {A = ℕ} n 0) ≡ n / row-numbers
-    rows-replicate n = ap (λ m. m / row-numbers) (length-replicate {A = ℕ} n 0)
-
--- after every replay the invariant holds of its last state and its whole history
-pub replay-holds : (r : Replay) → HoldsOf r (ran r .state) (happened r)
-replay-holds r = replay-has (HoldsOf r) (on-byte _ _ _ _) (on-line _ _ _ _) r (holds-opening r)
-
--- and at the moment at which a line is answered, of the state that it meets and the history of the lines before
-pub line-moment : (r : Replay) (before : List Exchange) (x : Exchange) → Line r before x → Moment (HoldsOf r) (history before) x
-line-moment r = moment (HoldsOf r) (on-byte _ _ _ _) (on-line _ _ _ _) r (holds-opening r)

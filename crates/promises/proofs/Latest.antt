@@ -12,7 +12,7 @@ use Rattle.rules.specs.Release.{weight}
 use Rattle.rules.proofs.Tests.{if-true, if-false, by-order}
 use Rattle.promises.specs.History.{Block, weigh, latest}
 use Rattle.promises.specs.Rows.{_∈_}
-use Rattle.promises.specs.Held.{LongestRun}
+use Rattle.promises.specs.Quarantine.{LongestRun}
 
 -- ---- what blocks weigh
 

@@ -1,74 +1,41 @@
--- The laws of a replay: what each byte keeps of a state and the history so far holds after a text, and at each of its lines; every line is
--- answered; and what was in the buffers that were lent to an opening does not show. Assumes nothing.
-use Prim.Native.Nat.{ℕ, _/_, suc, _^_, _<_}
+-- The laws of a replay: what each byte keeps of a state and the history so far holds after a text, and at each of its
+-- lines; and every line is answered. Assumes nothing.
+use Prim.Native.Nat.{ℕ, suc, _^_, _<_}
 use native.Mathlib.Omega.{arith}
 use mathlib.Core.Path.{_≡_, refl, sym, ap, ap₂, subst, _∙_}
 use mathlib.Core.Logic.{_≢_}
-use mathlib.Core.Bool.{true}
 use mathlib.Core.Option.{some, Option, Option·some-injective}
 use mathlib.Core.List.{List, [], _∷_, _++_, cons-ne-nil, head-eq-of-cons-eq, tail-eq-of-cons-eq}
-use lib.ListN.{length, replicate}
+use lib.ListN.{length}
 use Rattle.rules.specs.declared.Answer.{Answer}
 use Rattle.rules.specs.declared.Frame.{Frame}
-use Rattle.rules.specs.Limits.{line-feed, row-numbers, least-granules, most-granules, least-redzone, most-redzone, between, redzone-byte}
+use Rattle.rules.specs.Limits.{line-feed}
 use Rattle.rules.specs.Answers.{in-numbers, status}
-use Rattle.rules.specs.Release.{Pool}
 use Rattle.rules.specs.Frames.{frame, frame-of-line}
+use Rattle.rules.specs.Release.{Pool}
 use Rattle.rules.specs.Feed.{State, Ran, act-line, emptied, finish, hold, after, run, run-nil, run-cons}
-use Rattle.rules.specs.Watcher.{act, state-of, watcher, outcome}
-use Rattle.rules.specs.Calls.{table-length, OpenedWith, open-with, fresh, Lent, LentState}
-use Rattle.rules.proofs.Tests.{by-test}
+use Rattle.rules.specs.Watcher.{act, watcher, outcome}
+use Rattle.rules.specs.Calls.{LentState}
 use Rattle.rules.proofs.Feed.{step-line-feed, step-byte, by-first}
-use Rattle.rules.proofs.Calls.{step-lent, open-bad-shadow, open-bad-redzone, open-bad-table, opened-with, open-done, open-lent}
-use Rattle.promises.specs.History.{lines-on, lines, Exchange, paired, exchanges, asks, status-of, value-of, History, nothing-yet, heard, heard-all, history, kind-of}
-use Rattle.promises.specs.Replay.{Replay, opened, ran, log, Line, happened, SameReport, EveryLine}
-use Rattle.promises.proofs.History.{told, heard-told}
+use Rattle.rules.proofs.Calls.{lent-true, step-lent}
+use Rattle.promises.specs.History.{lines-on, lines, Exchange, paired, exchanges, asks, status-of, value-of, kind-of}
+use Rattle.promises.specs.History.{History, happen, heard, heard-all}
+use Rattle.promises.specs.Replay.{Idle, Replay, ran, log, Line, history, happened, EveryLine}
+use Rattle.promises.proofs.History.{told, events-told}
 use Rattle.promises.proofs.Lines.{lines-feed, lines-byte, answer-digits, lines-answer, status-answered, value-answered, Spells, spells-none, spells-more, spells-asks, kind-answered}
 use Rattle.promises.proofs.Digits.{value-fits, status-fits}
 
--- ---- an opening
+-- ---- an idle state
 
--- what is accepted passed every test
-opened-has : (r : Replay) (P : OpenedWith → Type 0)
-    → (between least-granules most-granules (length (r .shadow)) ≡ true → between least-redzone most-redzone (r .redzone) ≡ true
-    → table-length (length (r .table)) ≡ true → P (opened-with (r .shadow) (r .table) (r .redzone) (r .quarantine)))
-    → P (open-with (r .shadow) (r .table) (r .redzone) (r .quarantine))
-unfolding status in-numbers
-opened-has r P passed =
-    by-test (between least-granules most-granules (length (r .shadow)))
-    (λ a.
-    by-test (between least-redzone most-redzone (r .redzone))
-    (λ b.
-    by-test (table-length (length (r .table)))
-    (λ c. subst P (sym (open-done (r .shadow) (r .table) (r .redzone) (r .quarantine) a b c)) (passed a b c))
-    (λ c. refused (open-bad-table (r .shadow) (r .table) (r .redzone) (r .quarantine) a b c) (λ e. omega arith)))
-    (λ b. refused (open-bad-redzone (r .shadow) (r .table) (r .redzone) (r .quarantine) a b) (λ e. omega arith)))
-    (λ a. refused (open-bad-shadow (r .shadow) (r .table) (r .redzone) (r .quarantine) a) (λ e. omega arith))
-  where
-    refused : {o : OpenedWith} → open-with (r .shadow) (r .table) (r .redzone) (r .quarantine) ≡ o → o .given .status ≢ 0
-        → P (open-with (r .shadow) (r .table) (r .redzone) (r .quarantine))
-    refused e other = absurd (other (ap (λ o. o .given .status) (sym e) ∙ r .accepted))
-
--- the state after an opening that is accepted, by the lengths of the buffers that it was lent and by nothing that was in them
-abbrev pub fresh-state : ℕ → ℕ → ℕ → ℕ → State Pool
-fresh-state S n R Q = state-of (fresh S (n / row-numbers) R Q) (replicate S redzone-byte) (replicate n 0)
-
-pub opened-is : (r : Replay) → opened r ≡ fresh-state (length (r .shadow)) (length (r .table)) (r .redzone) (r .quarantine)
-unfolding opened
-opened-is r =
-    opened-has r
-    (λ o. state-of (o .given .session) (o .shadow) (o .table) ≡ fresh-state (length (r .shadow)) (length (r .table)) (r .redzone) (r .quarantine))
-    (λ a b c. refl)
-
--- an accepted opening's session fits the buffers that it was opened with
-pub opened-lent : (r : Replay) → LentState (opened r)
-unfolding opened
-opened-lent r =
-    opened-has r (λ o. Lent (o .given .session) (o .shadow) (o .table)) (open-lent (r .shadow) (r .table) (r .redzone) (r .quarantine))
+-- its session fits the buffers
+pub idle-lent : {st : State Pool} → Idle st → LentState st
+idle-lent {st} idle = lent-true (st .session) (st .pool .shadow) (st .pool .table) (idle .fits)
 
 -- and its line is empty
-opened-spells : (r : Replay) → Spells (opened r .session) []
-opened-spells r = subst (λ st. Spells (st .session) []) (sym (opened-is r)) (spells-none _ refl refl)
+idle-spells : {st : State Pool} → Idle st → Spells (st .session) []
+unfolding emptied
+idle-spells {st} idle =
+    spells-none (st .session) (ap (λ s. s .unfinished) (idle .none-unfinished)) (ap (λ s. s .line) (idle .none-unfinished))
 
 -- ---- the moment of a line
 
@@ -132,7 +99,7 @@ run-byte st b text other = run-cons watcher st b text ∙ ap (λ ran. after (ran
 
 module _ (P : State Pool → History → Type 0)
     (on-byte : (st : State Pool) (h : History) (b : ℕ) → P st h → P (hold st b .state) h)
-    (on-line : (st : State Pool) (h : History) → LentState st → P st h → P (finish watcher st .state) (told h (asked st) (act-line watcher st .answer))) where
+    (on-line : (st : State Pool) (h : History) → LentState st → P st h → P (finish watcher st .state) (happen h (told (asked st) (act-line watcher st .answer)))) where
   -- a text goes on from a state and the bytes that its unfinished line stands for: over the text's log, to the last state
   abbrev Along : History → List ℕ → List ℕ → Ran Pool → Type 0
   Along h line text ran = Goes P h (paired (lines-on line text) (lines (ran .report))) (ran .state)
@@ -142,7 +109,7 @@ module _ (P : State Pool → History → Type 0)
 
   -- a line feed, and a text
   follows-feed : (text : List ℕ) → Follows text → Follows (line-feed ∷ text)
-  unfolding paired finish emptied asks
+  unfolding paired finish emptied asks heard
   follows-feed text follows st h line lent spells holds =
       let answer : Answer = act-line watcher st .answer in
       let x : Exchange = record { line = line; answer = answer-digits answer } in
@@ -155,8 +122,9 @@ module _ (P : State Pool → History → Type 0)
         kind-is = kind-answered line answer;
         value-is = value-answered line answer (value-fits st lent);
       } in
-      let hears : told h (asked st) answer ≡ heard h x =
-      ap (λ frame. told h frame answer) (sym (now .asks-is)) ∙ sym (heard-told h x answer (now .status-is) (now .value-is)) in
+      let hears : happen h (told (asked st) answer) ≡ heard h x =
+      ap (happen h)
+      (ap (λ frame. told frame answer) (sym (now .asks-is)) ∙ sym (events-told x answer (now .status-is) (now .value-is))) in
       let later : Along (heard h x) [] text rest =
       follows (finish watcher st .state) (heard h x) []
       (subst (λ ran. LentState (ran .state)) (step-line-feed watcher st) (step-lent st line-feed lent))
@@ -185,19 +153,19 @@ module _ (P : State Pool → History → Type 0)
   text-follows (b ∷ text) =
       by-first b (λ c. Follows (c ∷ text)) (follows-feed text (text-follows text)) (λ other. follows-byte b text other (text-follows text))
 
-  module _ (r : Replay) (at-opening : P (opened r) nothing-yet) where
-    -- a replay's text, from its opening
-    replay-goes : Goes P nothing-yet (log r) (ran r .state)
+  module _ (r : Replay) (at-beginning : P (r .begun) (r .earlier)) where
+    -- a replay's text, from its beginning
+    replay-goes : Goes P (r .earlier) (log r) (ran r .state)
     unfolding ran log exchanges lines
-    replay-goes = text-follows (r .text) (opened r) nothing-yet [] (opened-lent r) (opened-spells r) at-opening
+    replay-goes = text-follows (r .text) (r .begun) (r .earlier) [] (idle-lent (r .begins .idle)) (idle-spells (r .begins .idle)) at-beginning
 
     -- it holds once the text has run
     pub replay-has : P (ran r .state) (happened r)
-    unfolding happened history
+    unfolding history
     replay-has = replay-goes .after
 
     -- and when each line is answered
-    pub moment : (before : List Exchange) (x : Exchange) → Line r before x → Moment P (history before) x
+    pub moment : (before : List Exchange) (x : Exchange) → Line r before x → Moment P (history r before) x
     unfolding history
     moment before x line = replay-goes .at before x (line .after) (line .is)
 
@@ -229,19 +197,7 @@ length-paired (line ∷ lines) (answer ∷ answers) same = ap suc (length-paired
 pub every-line : EveryLine
 unfolding log ran exchanges lines
 every-line r =
-    let same : length (lines (run watcher (opened r) (r .text) .report)) ≡ length (lines (r .text)) = as-many (r .text) [] (opened r) in
-    let all : length (paired (lines (r .text)) (lines (run watcher (opened r) (r .text) .report))) ≡ length (lines (r .text)) =
-    length-paired (lines (r .text)) (lines (run watcher (opened r) (r .text) .report)) same in
+    let same : length (lines (run watcher (r .begun) (r .text) .report)) ≡ length (lines (r .text)) = as-many (r .text) [] (r .begun) in
+    let all : length (paired (lines (r .text)) (lines (run watcher (r .begun) (r .text) .report))) ≡ length (lines (r .text)) =
+    length-paired (lines (r .text)) (lines (run watcher (r .begun) (r .text) .report)) same in
     record { lines-answered = all; answers-heard = all ∙ sym same }
-
--- the same text from the same opening gives the same report, whatever was in the buffers
-pub same-report : SameReport
-unfolding ran
-same-report r q same-shadow same-table same-redzone same-quarantine same-text =
-    ap (λ st. run watcher st (r .text)) (opened-is r)
-    ∙ ap (λ S. run watcher (fresh-state S (length (r .table)) (r .redzone) (r .quarantine)) (r .text)) same-shadow
-    ∙ ap (λ n. run watcher (fresh-state (length (q .shadow)) n (r .redzone) (r .quarantine)) (r .text)) same-table
-    ∙ ap (λ R. run watcher (fresh-state (length (q .shadow)) (length (q .table)) R (r .quarantine)) (r .text)) same-redzone
-    ∙ ap (λ Q. run watcher (fresh-state (length (q .shadow)) (length (q .table)) (q .redzone) Q) (r .text)) same-quarantine
-    ∙ ap (run watcher (fresh-state (length (q .shadow)) (length (q .table)) (q .redzone) (q .quarantine))) same-text
-    ∙ ap (λ st. run watcher st (q .text)) (sym (opened-is q))

@@ -25,19 +25,12 @@ use Rattle.rules.proofs.Release.{Oldest, if-quarantined-no, if-quarantined-same
 use Rattle.rules.proofs.Release.{evict-row-rows, evict-row-empty, evict-row-other, evict-row-count}
 use Rattle.rules.proofs.Release.{quarantine-row-lengths, quarantine-row-state, quarantine-row-other, quarantine-row-sum}
 use Rattle.promises.specs.History.{Block, block, others}
-use Rattle.promises.specs.Rows.{_∈_, Held, of-row, RowOf}
-use Rattle.promises.proofs.Blocks.{Distinct, distinct-nil, distinct-cons, distinct-others, others-of, others-in, length-others}
+use Rattle.promises.specs.Rows.{_∈_, Distinct, Held, of-row, RowOf, use-of, in-use}
+use Rattle.promises.proofs.Blocks.{distinct-nil, distinct-cons, distinct-others, others-of, others-in, length-others}
 use Rattle.promises.proofs.Laid.{Laid, each-row, of-row-same}
 use Rattle.promises.proofs.Kept.{fits-clear, laid-grant, laid-quarantine, laid-evict}
 
 -- ---- the rows in use
-
--- 0 for an empty row, and 1 for every other
-use-of : List ℕ → ℕ → ℕ
-use-of table i = elim (is-empty table i) [ true ↦ 0 | false ↦ 1 ]
-
-pub in-use : List ℕ → ℕ
-in-use table = total (use-of table) (rows table)
 
 use-empty : (table : List ℕ) (i : ℕ) → state table i ≡ empty → use-of table i ≡ 0
 unfolding use-of

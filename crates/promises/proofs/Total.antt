@@ -41,7 +41,7 @@ module _ (P : ℕ → Type 0) (done : P 0) where
       by-release R Q shadow table a (λ acted. P (status (acted .answer)))
       (λ e. done) (λ above no-live no-quarantined. foreign) (λ above no-live i e. twice) (λ above i e. done)
 
-  access-number : P 9 → (shadow : List ℕ) (a n : ℕ) → P (status (access shadow a n))
+  pub access-number : P 9 → (shadow : List ℕ) (a n : ℕ) → P (status (access shadow a n))
   unfolding status in-numbers
   access-number bad shadow a n =
       by-found (first-bad shadow a n)

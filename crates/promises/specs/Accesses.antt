@@ -1,4 +1,5 @@
--- Demand 3, history: a read or write is reported exactly when it touches a byte in no block granted and not yet released.
+-- Demand 3, history: a read or write is reported exactly when it touches a byte in no block granted and not yet
+-- released.
 use Prim.Native.Nat.{ℕ, _+_, _*_, _≤_, _<_, _%_}
 use mathlib.Core.Path.{_≡_}
 use mathlib.Core.Logic.{_≢_, _↔_, _⊎_}
@@ -6,11 +7,11 @@ use mathlib.Core.Bool.{true, false}
 use mathlib.Core.Option.{some}
 use mathlib.Core.List.{List, _∷_, _++_}
 use lib.ListN.{length}
-use Rattle.rules.specs.declared.Frame.the-variants.{Grant, Release, Read, Write}
+use Rattle.rules.specs.declared.Frame.the-variants.{Read, Write}
 use Rattle.rules.specs.Limits.{granule}
-use Rattle.rules.specs.Grant.{counted}
-use Rattle.promises.specs.History.{Exchange, asks, status-of, value-of, Block, block, has-byte, lies-in, history, held, kind-of, latest}
-use Rattle.promises.specs.Replay.{Replay, Line, happened}
+use Rattle.promises.specs.History.{Exchange, asks, status-of, kind-of, value-of, Block, has-byte, lies-in}
+use Rattle.promises.specs.History.{Granted, Released, events}
+use Rattle.promises.specs.Replay.{Replay, session, Line, live-at, quarantine-at, held-at, happened}
 use Rattle.promises.specs.Rows.{_∈_, past}
 
 -- the line reads or writes n bytes at a
@@ -32,7 +33,7 @@ pub record ReportedBy (blocks : List Block) (a n : ℕ) (x : Exchange) : Type 0 
 -- of every line, by the blocks granted and not yet released by the lines before
 abbrev pub Reported : Type 0
 Reported = (r : Replay) (before : List Exchange) (x : Exchange) → Line r before x → (a n : ℕ) → Touches x a n
-    → ReportedBy (history before .live) a n x
+    → ReportedBy (live-at r before) a n x
 
 -- the value is the least such byte
 pub record First (blocks : List Block) (a n : ℕ) (x : Exchange) : Type 0 where
@@ -43,10 +44,10 @@ pub record First (blocks : List Block) (a n : ℕ) (x : Exchange) : Type 0 where
 
 abbrev pub FirstBadByte : Type 0
 FirstBadByte = (r : Replay) (before : List Exchange) (x : Exchange) → Line r before x → (a n : ℕ) → Touches x a n
-    → status-of x ≡ some 9 → First (history before .live) a n x
+    → status-of x ≡ some 9 → First (live-at r before) a n x
 
--- the kind of a bad byte, by where it lies: ff outside the arena, fd in the granules of a quarantined block, the bytes of a live block's last
--- granule where it is past that block's last byte, and fa everywhere else
+-- the kind of a bad byte, by where it lies: ff outside the arena, fd in the granules of a quarantined block, the bytes
+-- of a live block's last granule where it is past that block's last byte, and fa everywhere else
 pub record KindBy (S : ℕ) (live quarantine : List Block) (b k : ℕ) : Type 0 where
   pub outside : granule * S ≤ b → k ≡ 0xff
   pub released : (y : Block) → y ∈ quarantine → y .address ≤ b → b < past y → k ≡ 0xfd
@@ -56,33 +57,26 @@ pub record KindBy (S : ℕ) (live quarantine : List Block) (b k : ℕ) : Type 0 
 abbrev pub Kinds : Type 0
 Kinds = (r : Replay) (before : List Exchange) (x : Exchange) → Line r before x → (a n : ℕ) → Touches x a n
     → status-of x ≡ some 9 → (b : ℕ) → value-of x ≡ some b
-    → (k : ℕ) × (kind-of x ≡ some k)
-    × KindBy (length (r .shadow)) (history before .live) (latest (r .redzone) (r .quarantine) (history before .released)) b k
+    → (k : ℕ) × (kind-of x ≡ some k) × KindBy (session r .granules) (live-at r before) (quarantine-at r before) b k
 
 -- bytes outside the arena lie in no block
 abbrev pub OutsideNowhere : Type 0
-OutsideNowhere = (r : Replay) (b : ℕ) → granule * length (r .shadow) ≤ b → lies-in (happened r .live) b ≡ false
+OutsideNowhere = (r : Replay) (b : ℕ) → granule * session r .granules ≤ b → lies-in (happened r .live) b ≡ false
 
 -- an access that touches bytes of two different held blocks is always reported
 abbrev pub TwoBlocks : Type 0
 TwoBlocks = (r : Replay) (before : List Exchange) (x : Exchange) → Line r before x → (a n : ℕ) → Touches x a n
-    → (y z : Block) → y ∈ held (r .redzone) (r .quarantine) (history before) → z ∈ held (r .redzone) (r .quarantine) (history before) → y ≢ z
+    → (y z : Block) → y ∈ held-at r before → z ∈ held-at r before → y ≢ z
     → (b c : ℕ) → a ≤ b → b < a + n → has-byte y b ≡ true → a ≤ c → c < a + n → has-byte z c ≡ true
     → status-of x ≡ some 9
 
 -- the line grants byte b
-pub record Grants (x : Exchange) (b : ℕ) : Type 0 where
-  pub size : ℕ
-  pub address : ℕ
-  pub asked : asks x ≡ Grant size
-  pub done : status-of x ≡ some 0
-  pub value : value-of x ≡ some address
-  pub has : has-byte (block address (counted size)) b ≡ true
+abbrev pub Grants : Exchange → ℕ → Type 0
+Grants x b = (y : Block) × (Granted y ∈ events x) × (has-byte y b ≡ true)
 
--- a released block's bytes are reported from its release until a later grant covers them
+-- a released block's bytes are reported from its release until a later line grants them
 abbrev pub UntilGranted : Type 0
 UntilGranted = (r : Replay) (before between : List Exchange) (gone x : Exchange) → Line r (before ++ (gone ∷ between)) x
-    → (c : ℕ) → asks gone ≡ Release c → status-of gone ≡ some 0
-    → (y : Block) → y ∈ history before .live → y .address ≡ c
+    → (y : Block) → y ∈ live-at r before → Released (y .address) ∈ events gone
     → (b : ℕ) → has-byte y b ≡ true → ((z : Exchange) → z ∈ between → Grants z b → ⊥)
     → (a n : ℕ) → Touches x a n → a ≤ b → b < a + n → status-of x ≡ some 9

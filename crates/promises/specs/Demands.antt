@@ -1,13 +1,14 @@
--- The user's three demands, in his order and in his words, and what else he was promised. Each statement is a definition of the files
--- below; each proof has its name in `proofs/Demands.antt`. All is said of the definitions of `rules`, and so of the code: every public
--- call's contract is that its result and every buffer are what `rules` says.
+-- The user's three demands, in his order and in his words, and what else he was promised. Each statement is a
+-- definition of the files below; each proof has its name in `proofs/Demands.antt`. All is said of the definitions of
+-- `rules`, and so of the code: every public call's contract is that its result and every buffer are what `rules` says.
 use Rattle.rules.specs.Watcher.{watcher}
-use Rattle.promises.specs.Replay.{EveryLine, SameReport}
+use Rattle.promises.specs.Replay.{Openings, BeginsAgain, EveryLine, SameReport}
 use Rattle.promises.specs.Total.{Total, RefusalsKeep}
 use Rattle.promises.specs.Published.{ShadowBytes, Verdicts, Places, Map32, Map64}
 use Rattle.promises.specs.Cutting.{Cutting, StopsEarly, GoesOn, Finishes, SoFar}
 use Rattle.promises.specs.Accesses.{Reported, FirstBadByte, OutsideNowhere, Kinds, TwoBlocks, UntilGranted}
-use Rattle.promises.specs.Held.{Separation, Quarantine, NotAgain, Heavier, NeverEvicts, Evicted, Placement, Releases, ReleasesNothing}
+use Rattle.promises.specs.Quarantine.{Separation, Quarantine, NotAgain, Heavier, NeverEvicts, Evicted}
+use Rattle.promises.specs.Sought.{Releases, Placement, AllSought, ReleasesNothing}
 use Rattle.promises.specs.Shape.{Shape, RowsAreBlocks, Encoding}
 use Rattle.promises.specs.Direct.{DirectCalls}
 
@@ -24,9 +25,9 @@ pub record Demand2 : Type 0 where
   pub map-of-32-bits : Map32
   pub map-of-64-bits : Map64
 
--- 3. Cut the trace anywhere, lend any room: report, shadow, table and session are those of the rules over the whole text; a read or write
--- is reported exactly when it touches a byte in no block granted and not yet released; held blocks stay a redzone apart; nothing in
--- quarantine is granted again.
+-- 3. Cut the trace anywhere, lend any room: report, shadow, table and session are those of the rules over the whole
+-- text; a read or write is reported exactly when it touches a byte in no block granted and not yet released; held
+-- blocks stay a redzone apart; nothing in quarantine is granted again.
 pub record Demand3 : Type 0 where
   -- cut anywhere, with any room; and one who stops early has the first part of the report
   pub cut-anywhere : Cutting watcher
@@ -34,6 +35,8 @@ pub record Demand3 : Type 0 where
   -- nobody is stuck
   pub goes-on : GoesOn watcher
   pub finishes : Finishes watcher
+  -- an opening is a beginning, and what follows is promised of every text from a beginning
+  pub from-an-opening : Openings
   -- every line is answered; reported exactly when, with the first such byte; outside the arena there is no block
   pub every-line : EveryLine
   pub reported : Reported
@@ -52,9 +55,10 @@ pub record Beyond : Type 0 where
   pub a-grant-never-evicts : NeverEvicts
   -- a release says how many left
   pub evicted-count : Evicted
-  -- the lowest place, 05 and 06 exactly; 07 and 08 exactly
-  pub placement : Placement
+  -- 07 and 08 exactly; 05 and 06 exactly, and the lowest place; done exactly when all that is sought is there
   pub releases : Releases
+  pub placement : Placement
+  pub all-sought : AllSought
   pub address-0 : ReleasesNothing
   -- table and shadow
   pub shape : Shape
@@ -68,4 +72,6 @@ pub record Beyond : Type 0 where
   pub two-blocks-reported : TwoBlocks
   pub reported-until-granted : UntilGranted
   pub answers-so-far : SoFar watcher
+  -- a text's end is a beginning again; and what was in the buffers lent to an opening does not show
+  pub begins-again : BeginsAgain
   pub same-report : SameReport

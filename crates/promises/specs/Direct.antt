@@ -1,4 +1,5 @@
--- Direct calls: each is the line of its frame. So what is promised of texts holds of direct calls too, made while no line is unfinished.
+-- Direct calls: each is the line of its frame. So what is promised of texts holds of direct calls too, made while no
+-- line is unfinished.
 use Prim.Native.Nat.{ℕ, _^_, _<_}
 use mathlib.Core.Path.{_≡_}
 use mathlib.Core.Bool.{true}
@@ -7,18 +8,14 @@ use Rattle.rules.specs.Limits.{line-feed, kind-grant, kind-release, kind-read, 
 use Rattle.rules.specs.Grant.{Acted}
 use Rattle.rules.specs.Release.{Pool}
 use Rattle.rules.specs.Frames.{digits, answer-line}
-use Rattle.rules.specs.Feed.{State, Ran, emptied, run}
+use Rattle.rules.specs.Feed.{State, Ran, run}
 use Rattle.rules.specs.Watcher.{watcher, state-of}
-use Rattle.rules.specs.Calls.{fits-lent, grant-call, release-call, access-call}
+use Rattle.rules.specs.Calls.{grant-call, release-call, access-call}
+use Rattle.promises.specs.Replay.{Idle}
 
 -- a frame's line: kind (2), A (8), B (8), line feed
 unfoldable pub line-of : ℕ → ℕ → ℕ → List ℕ
 line-of kind A B = (digits 2 kind ++ (digits 8 A ++ digits 8 B)) ++ (line-feed ∷ [])
-
--- a session that fits the buffers, and no line unfinished
-pub record Idle (st : State Pool) : Type 0 where
-  pub fits : fits-lent (st .session) (st .pool .shadow) (st .pool .table) ≡ true
-  pub none-unfinished : st .session ≡ emptied (st .session)
 
 -- the state that a call leaves, and its answer as a line of a report
 abbrev pub told-as : State Pool → Acted → Ran Pool
@@ -29,10 +26,14 @@ told-as st acted = record {
 
 pub record DirectCalls : Type 0 where
   pub grant : (st : State Pool) → Idle st → (s : ℕ) → s < 2 ^ 32
-      → run watcher st (line-of kind-grant s 0) ≡ told-as st (grant-call (st .session) (st .pool .shadow) (st .pool .table) s)
+      → run watcher st (line-of kind-grant s 0)
+      ≡ told-as st (grant-call (st .session) (st .pool .shadow) (st .pool .table) s)
   pub release : (st : State Pool) → Idle st → (a : ℕ) → a < 2 ^ 32
-      → run watcher st (line-of kind-release a 0) ≡ told-as st (release-call (st .session) (st .pool .shadow) (st .pool .table) a)
+      → run watcher st (line-of kind-release a 0)
+      ≡ told-as st (release-call (st .session) (st .pool .shadow) (st .pool .table) a)
   pub read : (st : State Pool) → Idle st → (a n : ℕ) → a < 2 ^ 32 → n < 2 ^ 32
-      → run watcher st (line-of kind-read a n) ≡ record { state = st; report = answer-line (access-call (st .session) (st .pool .shadow) (st .pool .table) a n) }
+      → run watcher st (line-of kind-read a n)
+      ≡ record { state = st; report = answer-line (access-call (st .session) (st .pool .shadow) (st .pool .table) a n) }
   pub write : (st : State Pool) → Idle st → (a n : ℕ) → a < 2 ^ 32 → n < 2 ^ 32
-      → run watcher st (line-of kind-write a n) ≡ record { state = st; report = answer-line (access-call (st .session) (st .pool .shadow) (st .pool .table) a n) }
+      → run watcher st (line-of kind-write a n)
+      ≡ record { state = st; report = answer-line (access-call (st .session) (st .pool .shadow) (st .pool .table) a n) }

@@ -1,4 +1,5 @@
--- What was granted and what was released, read off the lines of a trace and the lines of its report, and off nothing else.
+-- What lines seek, and what they granted and released: read off the lines of a trace and the lines of its report, and
+-- off nothing else.
 use Prim.Native.Nat.{ℕ, _+_, _-_}
 use mathlib.Core.Bool.{Bool, true, false, _&&_, _||_}
 use mathlib.Core.Option.{Option, none, some}
@@ -14,10 +15,12 @@ use Rattle.rules.specs.Frames.{number, frame-of-line}
 
 -- ---- lines and their answers
 
--- the finished lines of a text: what stands before each line feed. `line` is what has been read of the one not yet finished
+-- the finished lines of a text: what stands before each line feed. `line` is what has been read of the one not yet
+-- finished
 unfoldable pub lines-on : List ℕ → List ℕ → List (List ℕ)
 lines-on line [] = []
-lines-on line (b ∷ text) = elim (eqb b line-feed) [ true ↦ line ∷ lines-on [] text | false ↦ lines-on (line ++ (b ∷ [])) text ]
+lines-on line (b ∷ text) =
+    elim (eqb b line-feed) [ true ↦ line ∷ lines-on [] text | false ↦ lines-on (line ++ (b ∷ [])) text ]
 
 unfoldable pub lines : List ℕ → List (List ℕ)
 lines = lines-on []
@@ -78,6 +81,61 @@ unfoldable pub others : ℕ → List Block → List Block
 others a [] = []
 others a (x ∷ blocks) = elim (eqb (x .address) a) [ true ↦ others a blocks | false ↦ x ∷ others a blocks ]
 
+-- ---- what a line seeks
+
+-- room for a block of so many bytes, to be granted; and the block at an address, to be released
+pub record Sought : Type 0 where
+  pub room : Option ℕ
+  pub block : Option ℕ
+
+abbrev pub nothing-sought : Sought
+nothing-sought = record { room = none; block = none }
+
+-- at address 0 there is no block to release
+unfoldable pub block-at : ℕ → Option ℕ
+block-at a = elim (eqb a 0) [ true ↦ none | false ↦ some a ]
+
+-- a grant seeks room for as many bytes as it asks for, a release the block at its address; reads, writes and bad lines
+-- seek nothing
+unfoldable pub sought-by : Frame → Sought
+sought-by (Grant s) = record { room = some (counted s); block = none }
+sought-by (Release a) = record { room = none; block = block-at a }
+sought-by (Read a n) = nothing-sought
+sought-by (Write a n) = nothing-sought
+sought-by (Refused answer) = nothing-sought
+
+unfoldable pub seeks : Exchange → Sought
+seeks x = sought-by (asks x)
+
+-- ---- what a line did
+
+-- a block is granted; the block at an address is released
+pub data Event : Type 0 where
+  Granted : Block → Event
+  Released : ℕ → Event
+
+unfoldable pub grants-at : ℕ → Option ℕ → List Event
+grants-at value none = []
+grants-at value (some s) = Granted (block value s) ∷ []
+
+unfoldable pub releases-at : Option ℕ → List Event
+releases-at none = []
+releases-at (some a) = Released a ∷ []
+
+-- a line that is done did what it seeks, in this order: where it seeks room, it granted so many bytes at the value
+-- answered; where it seeks a block, it released that block
+unfoldable pub did : Sought → ℕ → List Event
+did sought value = grants-at value (sought .room) ++ releases-at (sought .block)
+
+-- only what is answered 00 is done
+unfoldable pub events : Exchange → List Event
+events x =
+    elim (status-of x) [
+      | none ↦ []
+      | some status ↦
+          elim (eqb status 0) [ false ↦ [] | true ↦ elim (value-of x) [ none ↦ [] | some value ↦ did (seeks x) value ] ]
+    ]
+
 -- ---- the history
 
 -- the blocks granted and not yet released, and the blocks released, the latest first
@@ -88,30 +146,22 @@ pub record History : Type 0 where
 abbrev pub nothing-yet : History
 nothing-yet = record { live = []; released = [] }
 
--- a grant that is done grants as many bytes as it asks for, at the value answered; a release that is done releases what is at its address
-unfoldable pub done : History → Frame → ℕ → History
-done h (Grant s) value = record { live = block value (counted s) ∷ h .live; released = h .released }
-done h (Release a) value = record { live = others a (h .live); released = at a (h .live) ++ h .released }
-done h (Read a n) value = h
-done h (Write a n) value = h
-done h (Refused answer) value = h
+unfoldable pub happens : History → Event → History
+happens h (Granted x) = record { live = x ∷ h .live; released = h .released }
+happens h (Released a) = record { live = others a (h .live); released = at a (h .live) ++ h .released }
 
--- one line with its answer: only what is answered 00 counts
+unfoldable pub happen : History → List Event → History
+happen h [] = h
+happen h (event ∷ events) = happen (happens h event) events
+
+-- one line with its answer
 unfoldable pub heard : History → Exchange → History
-heard h x =
-    elim (status-of x) [
-      | none ↦ h
-      | some status ↦
-          elim (eqb status 0) [ false ↦ h | true ↦ elim (value-of x) [ none ↦ h | some value ↦ done h (asks x) value ] ]
-    ]
+heard h x = happen h (events x)
 
+-- and one line after the other
 unfoldable pub heard-all : History → List Exchange → History
 heard-all h [] = h
 heard-all h (x ∷ log) = heard-all (heard h x) log
-
--- what a log granted and released
-unfoldable pub history : List Exchange → History
-history = heard-all nothing-yet
 
 -- ---- the quarantine
 
@@ -120,7 +170,8 @@ unfoldable pub weigh : ℕ → List Block → ℕ
 weigh R [] = 0
 weigh R (x ∷ blocks) = weight R (x .size) + weigh R blocks
 
--- the longest run of the first blocks whose weights sum to at most Q: of releases, the latest first, that is the quarantine
+-- the longest run of the first blocks whose weights sum to at most Q: of releases, the latest first, that is the
+-- quarantine
 unfoldable pub latest : ℕ → ℕ → List Block → List Block
 latest R Q [] = []
 latest R Q (x ∷ blocks) =

@@ -5,12 +5,15 @@ pub mod Total
 pub mod Published
 pub mod Cutting
 pub mod Accesses
-pub mod Held
+pub mod Quarantine
+pub mod Sought
 pub mod Shape
 pub mod Direct
--- what they speak of: what lines and answers granted and released, a text from an opening, and the rows and the shadow that they draw
+-- what they speak of: what lines and answers granted and released, the rows and the shadow that they draw, when these
+-- agree with a history, and a text from a beginning
 pub mod History
-pub mod Replay
 pub mod Rows
+pub mod Agreement
+pub mod Replay
 -- the paper's night, seen by them
 pub mod Night

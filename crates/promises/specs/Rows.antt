@@ -1,15 +1,15 @@
 -- The blocks that the table holds, how far apart blocks are, and the shadow that a table draws.
 use Prim.Native.Nat.{ℕ, zero, suc, _+_, _-_, _*_, _≤_, _<_}
 use mathlib.Core.Path.{_≡_}
-use mathlib.Core.Logic.{_⊎_}
+use mathlib.Core.Logic.{_≢_, _⊎_}
 use mathlib.Core.Bool.{Bool, true, false, _&&_, _||_}
 use mathlib.Core.Option.{none, some}
 use mathlib.Core.List.{List, [], _∷_, List·Memᴰ}
 use lib.ListN.{getD}
 use lib.Dec.{eqb, leb, ltb}
 use Rattle.rules.specs.Limits.{granule, redzone-byte, released-byte, live, quarantined}
-use Rattle.rules.specs.Lowest.{lowest}
-use Rattle.rules.specs.Table.{rows, start, size, state, is-quarantined}
+use Rattle.rules.specs.Lowest.{lowest, total}
+use Rattle.rules.specs.Table.{rows, start, size, state, is-empty, is-quarantined}
 use Rattle.rules.specs.Grant.{granules, granted}
 use Rattle.promises.specs.History.{Block}
 
@@ -42,6 +42,11 @@ pub record Free (S R : ℕ) (blocks : List Block) (x : Block) : Type 0 where
 abbrev pub Starts : List Block → ℕ → Type 0
 Starts blocks a = (y : Block) × (y ∈ blocks) × (y .address ≡ a)
 
+-- no two of the blocks start at one address
+unfoldable pub Distinct : List Block → Type 0
+Distinct [] = Unit {0}
+Distinct (x ∷ blocks) = ((y : Block) → y ∈ blocks → y .address ≢ x .address) × Distinct blocks
+
 -- ---- rows
 
 -- a block is held while live or quarantined
@@ -57,6 +62,13 @@ of-row table i = record { address = granule * start table i; size = size table i
 abbrev pub RowOf : List ℕ → ℕ → Block → Type 0
 RowOf table wanted x = (i : ℕ) × (i < rows table) × (state table i ≡ wanted) × (of-row table i ≡ x)
 
+-- the rows that are not empty
+unfoldable pub use-of : List ℕ → ℕ → ℕ
+use-of table i = elim (is-empty table i) [ true ↦ 0 | false ↦ 1 ]
+
+unfoldable pub in-use : List ℕ → ℕ
+in-use table = total (use-of table) (rows table)
+
 -- ---- the shadow that a table draws
 
 -- granule g is one of row i's, and the row is live or quarantined
@@ -67,7 +79,8 @@ covers table g i =
 
 -- fd in the granules of a quarantined row, in those of a live row what its grant painted
 unfoldable pub painted : List ℕ → ℕ → ℕ → ℕ
-painted table g i = elim (is-quarantined table i) [ true ↦ released-byte | false ↦ getD (granted (size table i)) (g - start table i) 0 ]
+painted table g i =
+    elim (is-quarantined table i) [ true ↦ released-byte | false ↦ getD (granted (size table i)) (g - start table i) 0 ]
 
 -- and fa everywhere else
 unfoldable pub drawn-byte : List ℕ → ℕ → ℕ
