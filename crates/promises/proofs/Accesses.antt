@@ -28,7 +28,7 @@ use Rattle.promises.specs.History.{others, latest, held}
 use Rattle.promises.specs.History.{seeks, Granted, Released, did, events}
 use Rattle.promises.specs.History.{History, happens, happen, heard, heard-all}
 use Rattle.promises.specs.Replay.{Replay, session, Line, history, live-at, quarantine-at, held-at, ran, happened}
-use Rattle.promises.specs.Rows.{_∈_, Held, of-row, past, RowOf}
+use Rattle.promises.specs.Rows.{_∈_, HeldRow, of-row, past, RowOf}
 use Rattle.promises.specs.Accesses.{Touches, Stray, Reported, First, FirstBadByte, TwoBlocks, UntilGranted}
 use Rattle.promises.specs.Accesses.{OutsideNowhere, KindBy, Kinds}
 use Rattle.promises.proofs.History.{did-alone, did-both, events-done, DidGrant, granted-by, released-by}
@@ -86,7 +86,7 @@ module _ {S R Q : ℕ} {shadow table : List ℕ} {h : History} (stands : Stands 
             let first : granule * start table (row .0) ≡ y .address = ap (λ w. w .address) (row .3) in
             let size-is : size table (row .0) ≡ y .size = ap (λ w. w .size) (row .3) in
             let granules-are : granules (size table (row .0)) ≡ granules (y .size) = ap granules size-is in
-            let own : Held table (row .0) = record { below = row .1; has = inl (row .2) } in
+            let own : HeldRow table (row .0) = record { below = row .1; has = inl (row .2) } in
             let high : ends table (row .0) + R ≤ S = laid .high (row .0) own in
             let beyond : y .address + y .size ≤ b =
             by-order b (y .address + y .size)
@@ -218,7 +218,7 @@ outside-nowhere r b beyond =
 -- in no live block
 module _ {S R Q : ℕ} {shadow table : List ℕ} {h : History} (stands : Stands S R Q shadow table h) where
   -- a byte of row i's granules is in no other held row's block
-  one-row : (i j : ℕ) → Held table i → Held table j → i ≢ j → (b : ℕ) → granule * start table i ≤ b
+  one-row : (i j : ℕ) → HeldRow table i → HeldRow table j → i ≢ j → (b : ℕ) → granule * start table i ≤ b
       → b < granule * ends table i
       → has-byte (of-row table j) b ≡ true → ⊥
   one-row i j hi hj differ b from below has =
@@ -247,7 +247,7 @@ module _ {S R Q : ℕ} {shadow table : List ℕ} {h : History} (stands : Stands 
   after-stray : (i : ℕ) → i < rows table → state table i ≡ live
       → lies-in (h .live) (granule * start table i + size table i) ≡ false
   after-stray i below is =
-      let own : Held table i = record { below = below; has = inl is } in
+      let own : HeldRow table i = record { below = below; has = inl is } in
       let b : ℕ = granule * start table i + size table i in
       lies-in-not (h .live) b
       (λ x m has-x.
@@ -273,7 +273,7 @@ module _ {S R Q : ℕ} {shadow table : List ℕ} {h : History} (stands : Stands 
     nowhere = after-stray i below is;
   }
 
-  two-rows : (i j a n b c : ℕ) → Held table i → Held table j → i ≢ j → a ≤ b → b < a + n
+  two-rows : (i j a n b c : ℕ) → HeldRow table i → HeldRow table j → i ≢ j → a ≤ b → b < a + n
       → has-byte (of-row table i) b ≡ true
       → a ≤ c → c < a + n → has-byte (of-row table j) c ≡ true → (s : ℕ) × Stray (h .live) a n s
   two-rows i j a n b c hi hj differ from-b below-b has-b from-c below-c has-c =
@@ -304,8 +304,8 @@ pub two-blocks : TwoBlocks
 two-blocks r before x line a n touches y z in-y in-z differ b c from-b below-b has-b from-c below-c has-c =
     let m : Moment (HoldsOf r) (history r before) x = line-moment r before x line in
     let table : List ℕ = m .st .pool .table in
-    let first : (i : ℕ) × Held table i × (of-row table i ≡ y) = held-row (m .holds .stands) y in-y in
-    let second : (j : ℕ) × Held table j × (of-row table j ≡ z) = held-row (m .holds .stands) z in-z in
+    let first : (i : ℕ) × HeldRow table i × (of-row table i ≡ y) = held-row (m .holds .stands) y in-y in
+    let second : (j : ℕ) × HeldRow table j × (of-row table j ≡ z) = held-row (m .holds .stands) z in-z in
     reported r before x line a n touches .reported .1
     (two-rows (m .holds .stands) (first .0) (second .0) a n b c (first .1) (second .1)
     (λ e. differ (sym (first .2) ∙ ap (of-row table) e ∙ second .2)) from-b below-b

@@ -12,7 +12,7 @@ use Rattle.rules.specs.Grant.{granules, granted}
 use Rattle.rules.proofs.Table.{row-of-zeros}
 use Rattle.rules.proofs.Grant.{granules-enough}
 use Rattle.promises.specs.History.{Block, has-byte, History, latest, held}
-use Rattle.promises.specs.Rows.{past, Apart, Held, of-row, in-use, drawn-byte, drawn}
+use Rattle.promises.specs.Rows.{past, Apart, HeldRow, of-row, in-use, drawn-byte, drawn}
 use Rattle.promises.specs.Agreement.{ShapedAs, SeparatedIn, RowsAre, QuarantinedIn, AgreesWith}
 use Rattle.promises.proofs.Blocks.{has-byte-true, has-byte-not}
 use Rattle.promises.proofs.Laid.{ends, Off, Laid}

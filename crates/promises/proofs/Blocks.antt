@@ -1,5 +1,5 @@
--- The laws of lists of blocks: which bytes a block has and which lie in one of several, what stands at an address and what is left of the
--- others, and lists of which no two blocks start at one address. Assumes nothing.
+-- The laws of lists of blocks: which bytes a block has and which lie in one of several, what stands at an address and
+-- what is left of the others, and lists of which no two blocks start at one address. Assumes nothing.
 use Prim.Native.Nat.{ℕ, suc, _+_, _≤_, _<_}
 use native.Mathlib.Decide.{ℕ-discrete}
 use mathlib.Core.Path.{_≡_, refl, sym, ap, subst, _∙_}
@@ -38,19 +38,22 @@ lies-in-here : (x : Block) (blocks : List Block) (b : ℕ) → has-byte x b ≡ 
 unfolding lies-in
 lies-in-here x blocks b e = ap (λ (t : Bool). t || lies-in blocks b) e
 
-lies-in-later : (x : Block) (blocks : List Block) (b : ℕ) → has-byte x b ≡ false → lies-in (x ∷ blocks) b ≡ lies-in blocks b
+lies-in-later : (x : Block) (blocks : List Block) (b : ℕ) → has-byte x b ≡ false
+    → lies-in (x ∷ blocks) b ≡ lies-in blocks b
 unfolding lies-in
 lies-in-later x blocks b e = ap (λ (t : Bool). t || lies-in blocks b) e
 
 -- a byte that lies in blocks is a byte of one of them
-pub lies-in-true : (blocks : List Block) (b : ℕ) → lies-in blocks b ≡ true → (x : Block) × (x ∈ blocks) × (has-byte x b ≡ true)
+pub lies-in-true : (blocks : List Block) (b : ℕ) → lies-in blocks b ≡ true
+    → (x : Block) × (x ∈ blocks) × (has-byte x b ≡ true)
 unfolding lies-in
 lies-in-true [] b e = absurd (false≢true e)
 lies-in-true (x ∷ blocks) b e =
     by-test (has-byte x b)
     (λ here. (x, List·Memᴰ·head refl, here))
     (λ not.
-    let later : (y : Block) × (y ∈ blocks) × (has-byte y b ≡ true) = lies-in-true blocks b (sym (lies-in-later x blocks b not) ∙ e) in
+    let later : (y : Block) × (y ∈ blocks) × (has-byte y b ≡ true) =
+    lies-in-true blocks b (sym (lies-in-later x blocks b not) ∙ e) in
     (later .0, List·Memᴰ·tail (later .1), later .2))
 
 -- a byte of one of them lies in them
@@ -67,10 +70,13 @@ lies-in-is (y ∷ blocks) b x m e =
     (List·Memᴰ·cases-cons m))
 
 -- a byte of none of them does not
-pub lies-in-not : (blocks : List Block) (b : ℕ) → ((x : Block) → x ∈ blocks → has-byte x b ≡ true → ⊥) → lies-in blocks b ≡ false
+pub lies-in-not : (blocks : List Block) (b : ℕ) → ((x : Block) → x ∈ blocks → has-byte x b ≡ true → ⊥)
+    → lies-in blocks b ≡ false
 lies-in-not blocks b nowhere =
     by-test (lies-in blocks b)
-    (λ e. let one : (x : Block) × (x ∈ blocks) × (has-byte x b ≡ true) = lies-in-true blocks b e in absurd (nowhere (one .0) (one .1) (one .2)))
+    (λ e.
+    let one : (x : Block) × (x ∈ blocks) × (has-byte x b ≡ true) =
+    lies-in-true blocks b e in absurd (nowhere (one .0) (one .1) (one .2)))
     (λ e. e)
 
 -- ---- the blocks at an address, and the others
@@ -136,7 +142,8 @@ pub others-none : (a : ℕ) (blocks : List Block) → ((x : Block) → x ∈ blo
 unfolding others
 others-none a [] nowhere = refl
 others-none a (x ∷ blocks) nowhere =
-    others-later a x blocks (nowhere x (List·Memᴰ·head refl)) ∙ ap (λ l. x ∷ l) (others-none a blocks (λ y m. nowhere y (List·Memᴰ·tail m)))
+    others-later a x blocks (nowhere x (List·Memᴰ·head refl))
+    ∙ ap (λ l. x ∷ l) (others-none a blocks (λ y m. nowhere y (List·Memᴰ·tail m)))
 
 -- ---- no two of the blocks start at one address
 
@@ -145,12 +152,14 @@ pub distinct-nil : Distinct []
 unfolding Distinct
 distinct-nil = tt
 
-pub distinct-cons : (x : Block) (blocks : List Block) → ((y : Block) → y ∈ blocks → y .address ≢ x .address) → Distinct blocks → Distinct (x ∷ blocks)
+pub distinct-cons : (x : Block) (blocks : List Block) → ((y : Block) → y ∈ blocks → y .address ≢ x .address)
+    → Distinct blocks → Distinct (x ∷ blocks)
 unfolding Distinct
 distinct-cons x blocks new rest = (new, rest)
 
 -- and back
-distinct-head : (x : Block) (blocks : List Block) → Distinct (x ∷ blocks) → (y : Block) → y ∈ blocks → y .address ≢ x .address
+distinct-head : (x : Block) (blocks : List Block) → Distinct (x ∷ blocks) → (y : Block) → y ∈ blocks
+    → y .address ≢ x .address
 unfolding Distinct
 distinct-head x blocks d = d .0
 
@@ -172,19 +181,23 @@ distinct-others a (x ∷ blocks) d =
     ]
 
 -- of such blocks, one at most is at an address
-alone : (a : ℕ) (x : Block) (blocks : List Block) → Distinct (x ∷ blocks) → x .address ≡ a → (y : Block) → y ∈ blocks → y .address ≢ a
+alone : (a : ℕ) (x : Block) (blocks : List Block) → Distinct (x ∷ blocks) → x .address ≡ a → (y : Block) → y ∈ blocks
+    → y .address ≢ a
 alone a x blocks d e y m f = distinct-head x blocks d y m (f ∙ sym e)
 
 -- what is at an address where a block starts is that block alone
-pub at-one : (a : ℕ) (blocks : List Block) (x : Block) → Distinct blocks → x ∈ blocks → x .address ≡ a → at a blocks ≡ x ∷ []
+pub at-one : (a : ℕ) (blocks : List Block) (x : Block) → Distinct blocks → x ∈ blocks → x .address ≡ a
+    → at a blocks ≡ x ∷ []
 at-one a [] x d m e = absurd (List·Memᴰ·not-nil m)
 at-one a (y ∷ blocks) x d m e =
     ⊎-elim
     (λ same.
     let here : y .address ≡ a = ap (λ z. z .address) (sym same) ∙ e in
-    at-here a y blocks here ∙ ap (λ l. y ∷ l) (at-none a blocks (alone a y blocks d here)) ∙ ap (λ z. z ∷ []) (sym same))
+    at-here a y blocks here ∙ ap (λ l. y ∷ l) (at-none a blocks (alone a y blocks d here))
+    ∙ ap (λ z. z ∷ []) (sym same))
     (λ later.
-    at-later a y blocks (λ f. distinct-head y blocks d x later (e ∙ sym f)) ∙ at-one a blocks x (distinct-tail y blocks d) later e)
+    at-later a y blocks (λ f. distinct-head y blocks d x later (e ∙ sym f))
+    ∙ at-one a blocks x (distinct-tail y blocks d) later e)
     (List·Memᴰ·cases-cons m)
 
 -- and without it there is one fewer

@@ -1,4 +1,5 @@
--- The shadow is the one that the table draws, and of all bytes exactly those of live rows are addressable. Assumes nothing.
+-- The shadow is the one that the table draws, and of all bytes exactly those of live rows are addressable. Assumes
+-- nothing.
 use Prim.Native.Nat.{ℕ, zero, suc, _+_, _-_, _*_, _/_, _%_, _≤_, _<_, zero-le, _^_}
 use native.Mathlib.Nat.{add-zero}
 use native.Mathlib.Decide.{ℕ-discrete}
@@ -19,10 +20,11 @@ use Rattle.rules.specs.Shadow.{leading, negative, shadow-of, addressable}
 use Rattle.rules.specs.Grant.{granules, granted}
 use Rattle.rules.proofs.Tests.{by-found, by-order, by-test, both, join, if-true, if-false}
 use Rattle.rules.proofs.Lowest.{Lowest, lowest-some, lowest-none, below-all}
-use Rattle.rules.proofs.Shadow.{leading-all, leading-first, leading-none, negative-from, addressable-is, not-inside, not-leading}
+use Rattle.rules.proofs.Shadow.{leading-all, leading-first, leading-none, negative-from, addressable-is, not-inside}
+use Rattle.rules.proofs.Shadow.{not-leading}
 use Rattle.rules.proofs.Grant.{granules-enough, granules-least, granted-whole, granted-last}
 use Rattle.promises.specs.History.{Block, lies-in, has-byte}
-use Rattle.promises.specs.Rows.{_∈_, Held, of-row, covers, painted, drawn-byte, drawn, RowOf}
+use Rattle.promises.specs.Rows.{_∈_, HeldRow, of-row, covers, painted, drawn-byte, drawn, RowOf}
 use Rattle.promises.proofs.Blocks.{has-byte-true, has-byte-is, lies-in-true, lies-in-is}
 use Rattle.promises.proofs.Laid.{ends, Off, Laid}
 use Rattle.promises.proofs.Kept.{granted-small}
@@ -32,7 +34,7 @@ use Rattle.promises.proofs.Standing.{LiveRows}
 
 -- granule g is one of held row i's
 pub record Over (table : List ℕ) (g i : ℕ) : Type 0 where
-  pub held : Held table i
+  pub held : HeldRow table i
   pub from : start table i ≤ g
   pub below : g < ends table i
 
@@ -41,7 +43,8 @@ unfolding covers
 covers-over table g i in-rows e =
     let is-live : Bool = eqb (state table i) live in
     let is-quarantined : Bool = eqb (state table i) quarantined in
-    let parts : ((is-live || is-quarantined) && leb (start table i) g ≡ true) × (ltb g (ends table i) ≡ true) = both e in
+    let parts : ((is-live || is-quarantined) && leb (start table i) g ≡ true) × (ltb g (ends table i) ≡ true) =
+    both e in
     let first : (is-live || is-quarantined ≡ true) × (leb (start table i) g ≡ true) = both (parts .0) in
     record {
       held = record {
@@ -69,26 +72,28 @@ over-covers table g i o =
 -- by what is over a granule: a held row, or none
 by-granule {ℓ} : (table : List ℕ) (g : ℕ) (P : Type ℓ)
     → ((i : ℕ) → lowest (covers table g) (rows table) 0 ≡ some i → Over table g i → P)
-    → (lowest (covers table g) (rows table) 0 ≡ none → ((i : ℕ) → Held table i → Off table i g) → P) → P
+    → (lowest (covers table g) (rows table) 0 ≡ none → ((i : ℕ) → HeldRow table i → Off table i g) → P) → P
 by-granule table g P one nothing =
     by-found (lowest (covers table g) (rows table) 0)
     (λ i e.
     let l : Lowest (covers table g) (rows table) 0 i = lowest-some (covers table g) (rows table) 0 i e in
     one i e (covers-over table g i (below-all l) (l .passes)))
-    (λ e. nothing e (λ i h. off i h (lowest-none (covers table g) (rows table) 0 e i zero-le (omega (arith, h .below)))))
+    (λ e.
+    nothing e (λ i h. off i h (lowest-none (covers table g) (rows table) 0 e i zero-le (omega (arith, h .below)))))
   where
-    off : (i : ℕ) → Held table i → covers table g i ≡ false → Off table i g
+    off : (i : ℕ) → HeldRow table i → covers table g i ≡ false → Off table i g
     off i h e =
         by-order g (start table i)
         (λ left. inl left)
         (λ from.
         by-order g (ends table i)
-        (λ below. absurd (true≢false (sym (over-covers table g i (record { held = h; from = from; below = below })) ∙ e)))
+        (λ below.
+        absurd (true≢false (sym (over-covers table g i (record { held = h; from = from; below = below })) ∙ e)))
         (λ right. inr right))
 
 -- one held row at most is over a granule
 over-one : (R : ℕ) {table : List ℕ}
-    → ((i j : ℕ) → Held table i → Held table j → i ≢ j → (ends table i + R ≤ start table j) ⊎ (ends table j + R ≤ start table i))
+    → ((i j : ℕ) → HeldRow table i → HeldRow table j → i ≢ j → (ends table i + R ≤ start table j) ⊎ (ends table j + R ≤ start table i))
     → (g i j : ℕ) → Over table g i → Over table g j → i ≡ j
 over-one R apart g i j o o′ =
     elim (ℕ-discrete i j) [
@@ -107,15 +112,18 @@ painted-quarantined : (table : List ℕ) (g i : ℕ) → state table i ≡ quara
 unfolding painted
 painted-quarantined table g i is = if-true _ _ (eq-eqb (state table i) quarantined is)
 
-painted-live : (table : List ℕ) (g i : ℕ) → state table i ≡ live → painted table g i ≡ getD (granted (size table i)) (g - start table i) 0
+painted-live : (table : List ℕ) (g i : ℕ) → state table i ≡ live
+    → painted table g i ≡ getD (granted (size table i)) (g - start table i) 0
 unfolding painted
 painted-live table g i is = if-false _ _ (ne-eqb (state table i) quarantined (λ e. absurd (omega arith)))
 
-drawn-row : (table : List ℕ) (g i : ℕ) → lowest (covers table g) (rows table) 0 ≡ some i → drawn-byte table g ≡ painted table g i
+drawn-row : (table : List ℕ) (g i : ℕ) → lowest (covers table g) (rows table) 0 ≡ some i
+    → drawn-byte table g ≡ painted table g i
 unfolding drawn-byte
 drawn-row table g i e = rw (e, drawn-byte)
 
-drawn-none : (table : List ℕ) (g : ℕ) → lowest (covers table g) (rows table) 0 ≡ none → drawn-byte table g ≡ redzone-byte
+drawn-none : (table : List ℕ) (g : ℕ) → lowest (covers table g) (rows table) 0 ≡ none
+    → drawn-byte table g ≡ redzone-byte
 unfolding drawn-byte
 drawn-none table g e = rw (e, drawn-byte)
 
@@ -129,14 +137,17 @@ unfolding drawn
 getD-drawn table zero g k below = absurd (omega arith)
 getD-drawn table (suc n) g zero below = ap (drawn-byte table) (sym (add-zero g))
 getD-drawn table (suc n) g (suc k) below =
-    getD-drawn table n (suc g) k (omega arith) ∙ ap (drawn-byte table) (let e : suc g + k ≡ g + suc k = omega arith in e)
+    getD-drawn table n (suc g) k (omega arith)
+    ∙ ap (drawn-byte table) (let e : suc g + k ≡ g + suc k = omega arith in e)
 
 module _ {S R : ℕ} {shadow table : List ℕ} (laid : Laid S R shadow table) where
   -- the byte of a live row's granule
-  pub live-byte : (i g : ℕ) → Over table g i → state table i ≡ live → getD shadow g 0 ≡ getD (granted (size table i)) (g - start table i) 0
+  pub live-byte : (i g : ℕ) → Over table g i → state table i ≡ live
+      → getD shadow g 0 ≡ getD (granted (size table i)) (g - start table i) 0
   live-byte i g o is =
       let at : start table i + (g - start table i) ≡ g = omega (arith, o .from) in
-      ap (λ m. getD shadow m 0) (sym at) ∙ laid .of-live i (o .held .below) is (g - start table i) (omega (arith, o .from, o .below))
+      ap (λ m. getD shadow m 0) (sym at)
+      ∙ laid .of-live i (o .held .below) is (g - start table i) (omega (arith, o .from, o .below))
 
   drawn-at : (g : ℕ) → g < S → getD shadow g 0 ≡ drawn-byte table g
   drawn-at g in-arena =
@@ -155,15 +166,19 @@ module _ {S R : ℕ} {shadow table : List ℕ} (laid : Laid S R shadow table) wh
       ext-getD 0 shadow (drawn table S 0) (laid .of-shadow ∙ sym (length-drawn table S 0))
       (λ k below.
       let in-arena : k < S = omega (arith, laid .of-shadow) in
-      drawn-at k in-arena ∙ ap (drawn-byte table) (let e : k ≡ 0 + k = omega arith in e) ∙ sym (getD-drawn table S 0 k in-arena))
+      drawn-at k in-arena ∙ ap (drawn-byte table) (let e : k ≡ 0 + k = omega arith in e)
+      ∙ sym (getD-drawn table S 0 k in-arena))
 
   -- each of its bytes is below 8, fd or fa
-  byte-is : (g : ℕ) → g < S → (getD shadow g 0 < granule) ⊎ ((getD shadow g 0 ≡ released-byte) ⊎ (getD shadow g 0 ≡ redzone-byte))
+  byte-is : (g : ℕ) → g < S
+      → (getD shadow g 0 < granule) ⊎ ((getD shadow g 0 ≡ released-byte) ⊎ (getD shadow g 0 ≡ redzone-byte))
   byte-is g in-arena =
-      by-granule table g ((getD shadow g 0 < granule) ⊎ ((getD shadow g 0 ≡ released-byte) ⊎ (getD shadow g 0 ≡ redzone-byte)))
+      by-granule table g
+      ((getD shadow g 0 < granule) ⊎ ((getD shadow g 0 ≡ released-byte) ⊎ (getD shadow g 0 ≡ redzone-byte)))
       (λ i e o.
       ⊎-elim
-      (λ is. inl (omega (arith, live-byte i g o is, granted-small (size table i) (g - start table i) (omega (arith, o .from, o .below)))))
+      (λ is.
+      inl (omega (arith, live-byte i g o is, granted-small (size table i) (g - start table i) (omega (arith, o .from, o .below)))))
       (λ is. inr (inl (laid .of-quarantined i (o .held .below) is g (o .from) (o .below))))
       (o .held .has))
       (λ e off. inr (inr (laid .of-none g in-arena off)))
@@ -181,13 +196,15 @@ module _ {S R : ℕ} {shadow table : List ℕ} (laid : Laid S R shadow table) wh
   -- and fits two digits
   pub byte-fits : (g : ℕ) → g < S → getD shadow g 0 < 16 ^ 2
   byte-fits g in-arena =
-      ⊎-elim {C = getD shadow g 0 < 16 ^ 2} (λ small. omega arith) (λ other. ⊎-elim {C = getD shadow g 0 < 16 ^ 2} (λ is. omega arith) (λ is. omega arith) other)
+      ⊎-elim {C = getD shadow g 0 < 16 ^ 2} (λ small. omega arith)
+      (λ other. ⊎-elim {C = getD shadow g 0 < 16 ^ 2} (λ is. omega arith) (λ is. omega arith) other)
       (byte-is g in-arena)
 
   -- ---- addressable bytes
 
   -- byte b of the k-th granule of a block of s bytes at granule p is addressable exactly when it is one of the s bytes
-  leading-granted : (s p b : ℕ) → p ≤ b / granule → b < granule * p + s → b % granule < leading (getD (granted s) (b / granule - p) 0)
+  leading-granted : (s p b : ℕ) → p ≤ b / granule → b < granule * p + s
+      → b % granule < leading (getD (granted s) (b / granule - p) 0)
   leading-granted s p b from below =
       let k : ℕ = b / granule - p in
       by-order k (s / granule)
@@ -195,7 +212,8 @@ module _ {S R : ℕ} {shadow table : List ℕ} (laid : Laid S R shadow table) wh
       (λ last.
       let is-last : k ≡ s / granule = omega arith in
       let v : getD (granted s) k 0 ≡ s % granule = ap (λ m. getD (granted s) m 0) is-last ∙ granted-last s in
-      subst (λ m. b % granule < leading m) (sym v) (omega (arith, leading-first (s % granule) (omega arith) (omega arith))))
+      subst (λ m. b % granule < leading m) (sym v)
+      (omega (arith, leading-first (s % granule) (omega arith) (omega arith))))
 
   past-granted : (s p b : ℕ) → p ≤ b / granule → b / granule < p + granules s → granule * p + s ≤ b
       → leading (getD (granted s) (b / granule - p) 0) ≤ b % granule
@@ -203,7 +221,8 @@ module _ {S R : ℕ} {shadow table : List ℕ} (laid : Laid S R shadow table) wh
       let k : ℕ = b / granule - p in
       let is-last : k ≡ s / granule = omega (arith, granules-least s) in
       let v : getD (granted s) k 0 ≡ s % granule = ap (λ m. getD (granted s) m 0) is-last ∙ granted-last s in
-      subst (λ m. leading m ≤ b % granule) (sym v) (omega (arith, granules-least s, leading-first (s % granule) (omega (arith, granules-least s)) (omega arith)))
+      subst (λ m. leading m ≤ b % granule) (sym v)
+      (omega (arith, granules-least s, leading-first (s % granule) (omega (arith, granules-least s)) (omega arith)))
 
   -- a byte that lies in a live block is over that block's row
   lies-row : (blocks : List Block) → LiveRows table blocks → (b : ℕ) → lies-in blocks b ≡ true
@@ -228,7 +247,8 @@ module _ {S R : ℕ} {shadow table : List ℕ} (laid : Laid S R shadow table) wh
   not-lies blocks b nowhere = by-test (lies-in blocks b) (λ e. absurd (nowhere e)) (λ e. e)
 
   -- exactly the bytes of live rows are addressable
-  pub addressable-lies : (blocks : List Block) → LiveRows table blocks → (b : ℕ) → addressable shadow b ≡ lies-in blocks b
+  pub addressable-lies : (blocks : List Block) → LiveRows table blocks → (b : ℕ)
+      → addressable shadow b ≡ lies-in blocks b
   unfolding shadow-of
   addressable-lies blocks lives b =
       by-order b (granule * S)
@@ -238,7 +258,8 @@ module _ {S R : ℕ} {shadow table : List ℕ} (laid : Laid S R shadow table) wh
       (λ e off.
       not-leading shadow b
       (omega (arith, ap leading (laid .of-none (b / granule) (omega arith) off), leading-none redzone-byte (omega arith)))
-      ∙ sym (not-lies blocks b (λ lies. let l = lies-row blocks lives b lies in over-off (l .0) (l .1) (off (l .0) (l .1 .held))))))
+      ∙ sym
+      (not-lies blocks b (λ lies. let l = lies-row blocks lives b lies in over-off (l .0) (l .1) (off (l .0) (l .1 .held))))))
       (λ beyond.
       not-inside shadow b (omega (arith, laid .of-shadow))
       ∙ sym
@@ -249,7 +270,8 @@ module _ {S R : ℕ} {shadow table : List ℕ} (laid : Laid S R shadow table) wh
       over-off j o (inl left) = omega (arith, o .from)
       over-off j o (inr right) = omega (arith, o .below)
 
-      of-live-row : (i : ℕ) → Over table (b / granule) i → state table i ≡ live → addressable shadow b ≡ lies-in blocks b
+      of-live-row : (i : ℕ) → Over table (b / granule) i → state table i ≡ live
+          → addressable shadow b ≡ lies-in blocks b
       of-live-row i o is =
           by-order b (granule * start table i + size table i)
           (λ below.
@@ -267,7 +289,8 @@ module _ {S R : ℕ} {shadow table : List ℕ} (laid : Laid S R shadow table) wh
           let same : l .0 ≡ i = over-one R (laid .apart) (b / granule) (l .0) i (l .1) o in
           omega (arith, l .3, ap (start table) same, ap (size table) same))))
 
-      of-quarantined-row : (i : ℕ) → Over table (b / granule) i → state table i ≡ quarantined → addressable shadow b ≡ lies-in blocks b
+      of-quarantined-row : (i : ℕ) → Over table (b / granule) i → state table i ≡ quarantined
+          → addressable shadow b ≡ lies-in blocks b
       of-quarantined-row i o is =
           not-leading shadow b
           (omega (
@@ -289,8 +312,8 @@ over-not-off : (table : List ℕ) (g i : ℕ) → Over table g i → Off table i
 over-not-off table g i o =
     ⊎-elim {C = ⊥} (λ left. omega (arith, o .from)) (λ right. omega (arith, o .below))
 
-module _ (S R : ℕ) {table : List ℕ} (high : (i : ℕ) → Held table i → ends table i + R ≤ S)
-    (apart : (i j : ℕ) → Held table i → Held table j → i ≢ j → (ends table i + R ≤ start table j) ⊎ (ends table j + R ≤ start table i)) where
+module _ (S R : ℕ) {table : List ℕ} (high : (i : ℕ) → HeldRow table i → ends table i + R ≤ S)
+    (apart : (i j : ℕ) → HeldRow table i → HeldRow table j → i ≢ j → (ends table i + R ≤ start table j) ⊎ (ends table j + R ≤ start table i)) where
   drawn-here : (g : ℕ) → g < S → getD (drawn table S 0) g 0 ≡ drawn-byte table g
   drawn-here g in-arena = getD-drawn table S 0 g in-arena ∙ ap (drawn-byte table) (let e : 0 + g ≡ g = omega arith in e)
 
@@ -305,7 +328,7 @@ module _ (S R : ℕ) {table : List ℕ} (high : (i : ℕ) → Held table i → e
       ((i : ℕ) → i < rows table → (state table i ≡ empty) ⊎ ((state table i ≡ live) ⊎ (state table i ≡ quarantined)))
       → ((i : ℕ) → i < rows table → state table i ≡ empty → (k : ℕ) → k < row-numbers → column k table i ≡ 0)
       → ((i : ℕ) → i < rows table → state table i ≡ live → turn table i ≡ 0)
-      → ((i : ℕ) → Held table i → 0 < size table i) → ((i : ℕ) → Held table i → R ≤ start table i)
+      → ((i : ℕ) → HeldRow table i → 0 < size table i) → ((i : ℕ) → HeldRow table i → R ≤ start table i)
       → Laid S R (drawn table S 0) table
   drawn-laid states zeros live-turn sized low = record {
     of-shadow = length-drawn table S 0;
@@ -324,7 +347,8 @@ module _ (S R : ℕ) {table : List ℕ} (high : (i : ℕ) → Held table i → e
         } in
         drawn-over (start table i + k) i over
         ∙ painted-live table (start table i + k) i is
-        ∙ ap (λ m. getD (granted (size table i)) m 0) (let e : start table i + k - start table i ≡ k = omega arith in e);
+        ∙ ap (λ m. getD (granted (size table i)) m 0)
+        (let e : start table i + k - start table i ≡ k = omega arith in e);
     of-quarantined = λ i below is g from upto.
         drawn-over g i (record { held = record { below = below; has = inr is }; from = from; below = upto })
         ∙ painted-quarantined table g i is;

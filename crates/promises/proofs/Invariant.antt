@@ -1,4 +1,5 @@
--- The invariant: what stands in shadow and table is what the history says, and every byte of a text keeps it. Assumes nothing.
+-- The invariant: what stands in shadow and table is what the history says, and every byte of a text keeps it. Assumes
+-- nothing.
 use Prim.Native.Nat.{ℕ, _*_, _/_, _≤_, _<_}
 use native.Mathlib.Omega.{arith}
 use mathlib.Core.Path.{_≡_, refl, sym, ap, subst, _∙_}
@@ -11,7 +12,8 @@ use Rattle.rules.specs.declared.Answer.{Answer}
 use Rattle.rules.specs.declared.Answer.the-variants.{Done}
 use Rattle.rules.specs.declared.Frame.{Frame}
 use Rattle.rules.specs.declared.Frame.the-variants.{Grant, Release, Read, Write, Refused}
-use Rattle.rules.specs.Limits.{granule, row-numbers, least-redzone, most-redzone, empty, live, quarantined, redzone-byte}
+use Rattle.rules.specs.Limits.{granule, row-numbers, least-redzone, most-redzone, empty, live, quarantined}
+use Rattle.rules.specs.Limits.{redzone-byte}
 use Rattle.rules.specs.Table.{rows, state, start, is-empty}
 use Rattle.rules.specs.Answers.{in-numbers, status}
 use Rattle.rules.specs.Grant.{Acted, unchanged, counted, granules, grant-at, grant}
@@ -27,7 +29,7 @@ use Rattle.rules.proofs.Feed.{SameNumbers, lengthened-numbers}
 use Rattle.rules.proofs.Watcher.{act-lengths}
 use Rattle.promises.specs.History.{Block, at, sought-by, nothing-sought, Released, grants-at, releases-at, did}
 use Rattle.promises.specs.History.{History, happens, happen, latest, held}
-use Rattle.promises.specs.Rows.{_∈_, Held, of-row, RowOf, in-use}
+use Rattle.promises.specs.Rows.{_∈_, HeldRow, of-row, RowOf, in-use}
 use Rattle.promises.proofs.History.{told, told-done, told-nothing, did-release, release-seeks-nothing}
 use Rattle.promises.proofs.Replay.{asked}
 use Rattle.promises.proofs.Blocks.{at-one}
@@ -35,9 +37,9 @@ use Rattle.promises.proofs.Standing.{Standing, standing-grant, standing
 use Rattle.promises.proofs.Latest.{latest-again}
 use Rattle.promises.proofs.Queue.{Queue, queue-put, queue-quarantine, queue-settle, queue-row, queue-block}
 
--- shadow and table as a history has them: the rows lie a redzone apart and draw the shadow, the live ones are the blocks granted and not
--- yet released, so many rows are in use (`Standing`); and the quarantined ones, by their turns, are the longest run of latest releases
--- (`Queue`)
+-- shadow and table as a history has them: the rows lie a redzone apart and draw the shadow, the live ones are the
+-- blocks granted and not yet released, so many rows are in use (`Standing`); and the quarantined ones, by their turns,
+-- are the longest run of latest releases (`Queue`)
 pub record Stands (S R Q : ℕ) (shadow table : List ℕ) (h : History) : Type 0 where
   pub above : 0 < R
   pub standing : Standing S R shadow table (h .live)
@@ -59,20 +61,25 @@ module _ {S R Q : ℕ} {shadow table : List ℕ} {h : History} (stands : Stands 
       let is : state table i ≡ empty = eqb-true (state table i) empty (l .passes) in
       record {
         above = stands .above;
-        standing = standing-grant (stands .standing) i (counted s) p below is (counted-least s) (place-some shadow R (granules (counted s)) p at-place .fits);
-        queue = queue-put R table (latest R Q (h .released)) i p (counted s) below (λ e. absurd (omega arith)) (stands .queue);
+        standing = standing-grant (stands .standing) i (counted s) p below is (counted-least s)
+            (place-some shadow R (granules (counted s)) p at-place .fits);
+        queue = queue-put R table (latest R Q (h .released)) i p (counted s) below (λ e. absurd (omega arith))
+            (stands .queue);
       })
 
-  -- live row i, at a, is released: once all evictions are done, what is quarantined is the longest run of the releases with it
+  -- live row i, at a, is released: once all evictions are done, what is quarantined is the longest run of the releases
+  -- with it
   pub released-queue : (i a : ℕ) → StartsAt live table a i
-      → Queue R (settle R Q (quarantine-row (record { shadow = shadow; table = table }) i) .pool .table) (latest R Q (at a (h .live) ++ h .released))
+      → Queue R (settle R Q (quarantine-row (record { shadow = shadow; table = table }) i) .pool .table)
+      (latest R Q (at a (h .live) ++ h .released))
   released-queue i a s =
       let pool : Pool = record { shadow = shadow; table = table } in
       let own : Block = of-row table i in
       let listed : own ∈ h .live = stands .standing .lives .listed i (s .below) (s .has) in
       subst (Queue R (settle R Q (quarantine-row pool i) .pool .table))
       (latest-again R Q own (h .released)
-      ∙ ap (λ l. latest R Q (l ++ h .released)) (sym (at-one a (h .live) own (stands .standing .lives .distinct) listed (s .at))))
+      ∙ ap (λ l. latest R Q (l ++ h .released))
+      (sym (at-one a (h .live) own (stands .standing .lives .distinct) listed (s .at))))
       (queue-settle R Q (quarantine-row pool i) (own ∷ latest R Q (h .released))
       (queue-quarantine R pool (latest R Q (h .released)) i (s .below) (s .has) (stands .queue)))
 
@@ -90,10 +97,12 @@ module _ {S R Q : ℕ} {shadow table : List ℕ} {h : History} (stands : Stands 
       let pool : Pool = record { shadow = shadow; table = table } in
       let s : StartsAt live table a i = row-at-some live table a i e in
       let acted : Acted = release-row R Q pool i in
-      subst (λ es. Stands S R Q (acted .shadow) (acted .table) (happen h es)) (sym (told-done (Release a) (acted .answer) refl ∙ did-release a _ above))
+      subst (λ es. Stands S R Q (acted .shadow) (acted .table) (happen h es))
+      (sym (told-done (Release a) (acted .answer) refl ∙ did-release a _ above))
       (record {
         above = stands .above;
-        standing = standing-settle Q (quarantine-row pool i) (standing-quarantine pool (stands .standing) i a (s .below) (s .has) (s .at));
+        standing = standing-settle Q (quarantine-row pool i)
+            (standing-quarantine pool (stands .standing) i a (s .below) (s .has) (s .at));
         queue = released-queue i a s;
       }))
 
@@ -103,7 +112,8 @@ nothing-happens : {S : ℕ} (session : Session) (shadow table : List ℕ) (h : H
     → Leaves S (session .redzone) (session .quarantine) h frame (unchanged answer shadow table)
 unfolding happen
 nothing-happens {S} session shadow table h frame answer nothing stands =
-    subst (λ es. Stands S (session .redzone) (session .quarantine) shadow table (happen h es)) (sym (told-nothing frame answer nothing)) stands
+    subst (λ es. Stands S (session .redzone) (session .quarantine) shadow table (happen h es))
+    (sym (told-nothing frame answer nothing)) stands
 
 -- a line, whatever it asks
 stands-act : {S : ℕ} (session : Session) (shadow table : List ℕ) (h : History) (frame : Frame)
@@ -123,7 +133,7 @@ stands-act session shadow table h (Refused answer) stands =
 
 module _ {S R Q : ℕ} {shadow table : List ℕ} {h : History} (stands : Stands S R Q shadow table h) where
   -- a held block is that of a live row or of a quarantined one
-  pub held-row : (y : Block) → y ∈ held R Q h → (i : ℕ) × Held table i × (of-row table i ≡ y)
+  pub held-row : (y : Block) → y ∈ held R Q h → (i : ℕ) × HeldRow table i × (of-row table i ≡ y)
   unfolding held
   held-row y m =
       ⊎-elim
@@ -137,18 +147,20 @@ module _ {S R Q : ℕ} {shadow table : List ℕ} {h : History} (stands : Stands 
       (List·Memᴰ·append-cases (h .live) m)
 
   -- the block of a held row is held
-  pub row-held : (i : ℕ) → Held table i → of-row table i ∈ held R Q h
+  pub row-held : (i : ℕ) → HeldRow table i → of-row table i ∈ held R Q h
   unfolding held
   row-held i own =
       ⊎-elim
       (λ is. Memᴰ·append-left (latest R Q (h .released)) (stands .standing .lives .listed i (own .below) is))
-      (λ is. Memᴰ·append-right (h .live) (queue-block R table (latest R Q (h .released)) (stands .queue) i (own .below) is))
+      (λ is.
+      Memᴰ·append-right (h .live) (queue-block R table (latest R Q (h .released)) (stands .queue) i (own .below) is))
       (own .has)
 
   -- as many blocks are held as rows are in use
   pub held-count : length (held R Q h) ≡ in-use table
   unfolding held
-  held-count = omega (arith, length-append (h .live) (latest R Q (h .released)), stands .standing .used, stands .queue .count)
+  held-count =
+      omega (arith, length-append (h .live) (latest R Q (h .released)), stands .standing .used, stands .queue .count)
 
 -- ---- states
 
@@ -173,16 +185,19 @@ module _ (S n R Q : ℕ) where
       }
 
   -- and so does a line feed, with the answer heard
-  pub on-line : (st : State Pool) (h : History) → LentState st → Holds S n R Q st h → Holds S n R Q (finish watcher st .state) (happen h (told (asked st) (act-line watcher st .answer)))
+  pub on-line : (st : State Pool) (h : History) → LentState st → Holds S n R Q st h
+      → Holds S n R Q (finish watcher st .state) (happen h (told (asked st) (act-line watcher st .answer)))
   unfolding finish emptied act-line
   on-line st h lent holds =
       let acted : Acted = act (st .session) (st .pool .shadow) (st .pool .table) (asked st) in
       record {
         redzone = holds .redzone;
         quarantine = holds .quarantine;
-        of-rows = rows-same (acted .table) (st .pool .table) (act-lengths (st .session) (st .pool .shadow) (st .pool .table) (asked st) .1) ∙ holds .of-rows;
+        of-rows = rows-same (acted .table) (st .pool .table)
+            (act-lengths (st .session) (st .pool .shadow) (st .pool .table) (asked st) .1) ∙ holds .of-rows;
         stands =
-            subst (λ Q′. Stands S R Q′ (acted .shadow) (acted .table) (happen h (told (asked st) (acted .answer)))) (holds .quarantine)
+            subst (λ Q′. Stands S R Q′ (acted .shadow) (acted .table) (happen h (told (asked st) (acted .answer))))
+            (holds .quarantine)
             (subst (λ R′. Stands S R′ (st .session .quarantine) (acted .shadow) (acted .table) (happen h (told (asked st) (acted .answer)))) (holds .redzone)
             (stands-act (st .session) (st .pool .shadow) (st .pool .table) h (asked st)
             (subst (λ Q′. Stands S (st .session .redzone) Q′ (st .pool .shadow) (st .pool .table) h) (sym (holds .quarantine))

@@ -1,5 +1,5 @@
--- That blocks stay laid: by a grant at a place that fits, by a row that becomes quarantined, and by an eviction; and that a place fits
--- exactly where it is a redzone away from every held row. Assumes nothing.
+-- That blocks stay laid: by a grant at a place that fits, by a row that becomes quarantined, and by an eviction; and
+-- that a place fits exactly where it is a redzone away from every held row. Assumes nothing.
 use Prim.Native.Nat.{ℕ, zero, suc, _+_, _-_, _*_, _/_, _≤_, _<_, max}
 use native.Mathlib.Omega.{arith}
 use mathlib.Core.Path.{_≡_, refl, sym, ap, ap₂, subst, _∙_}
@@ -19,7 +19,7 @@ use Rattle.rules.proofs.Grant.{granules-above, granules-least, length-granted, 
 use Rattle.rules.proofs.Release.{evict-row-rows, evict-row-empty, evict-row-other, evict-row-turn, evict-row-shadow}
 use Rattle.rules.proofs.Release.{paint-row-length, paint-row-in, paint-row-before, paint-row-after}
 use Rattle.rules.proofs.Release.{quarantine-row-lengths, quarantine-row-state, quarantine-row-own, quarantine-row-other}
-use Rattle.promises.specs.Rows.{Held}
+use Rattle.promises.specs.Rows.{HeldRow}
 use Rattle.promises.proofs.Laid.{ends, Off, Laid, laid-repainted}
 
 -- ---- an opening
@@ -38,7 +38,7 @@ zero-column n k i = zeros-at n (row-numbers * i + k)
 pub laid-opening : (S R n : ℕ) → Laid S R (replicate S redzone-byte) (replicate n 0)
 laid-opening S R n =
     let is-empty : (i : ℕ) → state (replicate n 0) i ≡ empty = zero-column n state-column in
-    let nothing : (i : ℕ) → Held (replicate n 0) i → ⊥ =
+    let nothing : (i : ℕ) → HeldRow (replicate n 0) i → ⊥ =
     λ i h. ⊎-elim {C = ⊥} (λ is. omega (arith, is-empty i)) (λ is. omega (arith, is-empty i)) (h .has) in
     record {
       of-shadow = length-replicate S redzone-byte;
@@ -67,18 +67,20 @@ granted-small s k in-block =
 
 module _ {S R : ℕ} {shadow table : List ℕ} (laid : Laid S R shadow table) where
   -- a held row's granules are not fa
-  not-free : (j : ℕ) → Held table j → (g : ℕ) → start table j ≤ g → g < ends table j → getD shadow g 0 ≢ redzone-byte
+  not-free : (j : ℕ) → HeldRow table j → (g : ℕ) → start table j ≤ g → g < ends table j → getD shadow g 0 ≢ redzone-byte
   not-free j h g from below free =
       ⊎-elim {C = ⊥}
       (λ is.
       let at : start table j + (g - start table j) ≡ g = omega arith in
       let in-block : g - start table j < granules (size table j) = omega arith in
-      omega (arith, ap (λ m. getD shadow m 0) at, laid .of-live j (h .below) is (g - start table j) in-block, granted-small (size table j) (g - start table j) in-block))
+      omega
+      (arith, ap (λ m. getD shadow m 0) at, laid .of-live j (h .below) is (g - start table j) in-block, granted-small (size table j) (g - start table j) in-block))
       (λ is. omega (arith, laid .of-quarantined j (h .below) is g from below))
       (h .has)
 
   -- a place fits exactly where it is a redzone away from every held row
-  pub fits-clear : (u p : ℕ) → 0 < u → Fits shadow R u p → (j : ℕ) → Held table j → (ends table j + R ≤ p) ⊎ (p + u + R ≤ start table j)
+  pub fits-clear : (u p : ℕ) → 0 < u → Fits shadow R u p → (j : ℕ) → HeldRow table j
+      → (ends table j + R ≤ p) ⊎ (p + u + R ≤ start table j)
   fits-clear u p above fits j h =
       let sized : 0 < granules (size table j) = granules-above (size table j) (laid .sized j h) in
       let low : R ≤ p = fits .low in
@@ -91,7 +93,8 @@ module _ {S R : ℕ} {shadow table : List ℕ} (laid : Laid S R shadow table) wh
       (λ right. inr right))
       (λ left. inl (omega arith))
 
-  pub clear-fits : (u p : ℕ) → R ≤ p → p + u + R ≤ S → ((j : ℕ) → Held table j → (ends table j + R ≤ p) ⊎ (p + u + R ≤ start table j)) → Fits shadow R u p
+  pub clear-fits : (u p : ℕ) → R ≤ p → p + u + R ≤ S
+      → ((j : ℕ) → HeldRow table j → (ends table j + R ≤ p) ⊎ (p + u + R ≤ start table j)) → Fits shadow R u p
   clear-fits u p low high clear = record {
     low = low;
     high = omega (arith, laid .of-shadow);
@@ -102,11 +105,13 @@ module _ {S R : ℕ} {shadow table : List ℕ} (laid : Laid S R shadow table) wh
 
   -- ---- a grant of s bytes at p, into row i
 
-  module _ (i s p : ℕ) (below : i < rows table) (is-empty : state table i ≡ empty) (sized : 0 < s) (fits : Fits shadow R (granules s) p) where
-    not-held : Held table i → ⊥
+  module _ (i s p : ℕ) (below : i < rows table) (is-empty : state table i ≡ empty) (sized : 0 < s)
+      (fits : Fits shadow R (granules s) p) where
+    not-held : HeldRow table i → ⊥
     not-held h = ⊎-elim {C = ⊥} (λ is. omega arith) (λ is. omega arith) (h .has)
 
-    own : (k : ℕ) → k < row-numbers → column k (put-row table i (granted-row p s)) i ≡ getD (numbers (granted-row p s)) k 0
+    own : (k : ℕ) → k < row-numbers
+        → column k (put-row table i (granted-row p s)) i ≡ getD (numbers (granted-row p s)) k 0
     own k in-row = column-put-row table i (granted-row p s) below k in-row
 
     inside : p + length (granted s) ≤ length shadow
@@ -117,11 +122,13 @@ module _ {S R : ℕ} {shadow table : List ℕ} (laid : Laid S R shadow table) wh
         laid-repainted {lo = p} {hi = p + granules s} laid
         (record {
           below = below;
-          same-rows = rows-same (put-row table i (granted-row p s)) table (length-put-row table i (granted-row p s) below);
+          same-rows = rows-same (put-row table i (granted-row p s)) table
+              (length-put-row table i (granted-row p s) below);
           same-length = length-put shadow p (granted s) inside;
           other = λ k j in-row no-turn other. column-put-row-other table i (granted-row p s) below k j in-row other;
           other-turn =
-              λ j in-rows other was. column-put-row-other table i (granted-row p s) below turn-column j (omega arith) other ∙ was;
+              λ j in-rows other was. column-put-row-other table i (granted-row p s) below turn-column j
+              (omega arith) other ∙ was;
           beside =
               λ g beside.
               ⊎-elim
@@ -152,8 +159,10 @@ module _ {S R : ℕ} {shadow table : List ℕ} (laid : Laid S R shadow table) wh
 
 -- ---- a row's granules repainted
 
-module _ {S R : ℕ} (pool : Pool) (laid : Laid S R (pool .shadow) (pool .table)) (i : ℕ) (h : Held (pool .table) i) where
-  clear-of : (j : ℕ) → j ≢ i → Held (pool .table) j → (ends (pool .table) j + R ≤ start (pool .table) i) ⊎ (ends (pool .table) i + R ≤ start (pool .table) j)
+module _ {S R : ℕ} (pool : Pool) (laid : Laid S R (pool .shadow) (pool .table)) (i : ℕ)
+    (h : HeldRow (pool .table) i) where
+  clear-of : (j : ℕ) → j ≢ i → HeldRow (pool .table) j
+      → (ends (pool .table) j + R ≤ start (pool .table) i) ⊎ (ends (pool .table) i + R ≤ start (pool .table) j)
   clear-of j other held = laid .apart j i held h other
 
   in-arena : (g : ℕ) → g < ends (pool .table) i → g < length (pool .shadow)
@@ -175,10 +184,12 @@ module _ {S R : ℕ} (pool : Pool) (laid : Laid S R (pool .shadow) (pool .table)
         same-rows = rows-same after (pool .table) (quarantine-row-lengths pool i (h .below) .1);
         same-length = quarantine-row-lengths pool i (h .below) .0;
         other = λ k j in-row no-turn other. quarantine-row-other pool i (h .below) k j in-row other;
-        other-turn = λ j in-rows other was. quarantine-row-other pool i (h .below) turn-column j (omega arith) other ∙ was;
+        other-turn = λ j in-rows other was. quarantine-row-other pool i (h .below) turn-column j (omega arith) other
+            ∙ was;
         beside =
             λ g beside.
-            ⊎-elim (λ left. paint-row-before pool i released-byte g left) (λ right. paint-row-after pool i released-byte g right) beside;
+            ⊎-elim (λ left. paint-row-before pool i released-byte g left)
+            (λ right. paint-row-after pool i released-byte g right) beside;
         clear = clear-of;
         before = λ held. (refl, refl);
         states = inr (inr now-is);
@@ -199,9 +210,11 @@ module _ {S R : ℕ} (pool : Pool) (laid : Laid S R (pool .shadow) (pool .table)
   -- row i is evicted
   pub laid-evict : Laid S R (evict-row pool i .shadow) (evict-row pool i .table)
   laid-evict =
-      let emptied : (k : ℕ) → k < row-numbers → column k (evict-row pool i .table) i ≡ 0 = evict-row-empty pool i (h .below) in
-      let not-now : Held (evict-row pool i .table) i → ⊥ =
-      λ held. ⊎-elim {C = ⊥} (λ is. omega (arith, emptied state-column (omega arith))) (λ is. omega (arith, emptied state-column (omega arith))) (held .has) in
+      let emptied : (k : ℕ) → k < row-numbers → column k (evict-row pool i .table) i ≡ 0 =
+      evict-row-empty pool i (h .below) in
+      let not-now : HeldRow (evict-row pool i .table) i → ⊥ =
+      λ held. ⊎-elim {C = ⊥} (λ is. omega (arith, emptied state-column (omega arith)))
+      (λ is. omega (arith, emptied state-column (omega arith))) (held .has) in
       laid-repainted {lo = start (pool .table) i} {hi = ends (pool .table) i} laid
       (record {
         below = h .below;
@@ -212,7 +225,8 @@ module _ {S R : ℕ} (pool : Pool) (laid : Laid S R (pool .shadow) (pool .table)
         beside =
             λ g beside.
             ap (λ l. getD l g 0) (evict-row-shadow pool i)
-            ∙ ⊎-elim (λ left. paint-row-before pool i redzone-byte g left) (λ right. paint-row-after pool i redzone-byte g right) beside;
+            ∙ ⊎-elim (λ left. paint-row-before pool i redzone-byte g left)
+            (λ right. paint-row-after pool i redzone-byte g right) beside;
         clear = clear-of;
         before = λ held. (refl, refl);
         states = inl (emptied state-column (omega arith));
@@ -223,5 +237,6 @@ module _ {S R : ℕ} (pool : Pool) (laid : Laid S R (pool .shadow) (pool .table)
         of-quarantined = λ is. absurd (omega (arith, emptied state-column (omega arith)));
         of-none =
             λ is g from below in-arena·.
-            ap (λ l. getD l g 0) (evict-row-shadow pool i) ∙ paint-row-in pool i redzone-byte g from below (in-arena g below);
+            ap (λ l. getD l g 0) (evict-row-shadow pool i)
+            ∙ paint-row-in pool i redzone-byte g from below (in-arena g below);
       })

@@ -1,5 +1,6 @@
--- The laws of `weigh` and `latest`: the latest that weigh at most Q are the longest run of the first, what is too old for them never
--- counts again, and a block heavier than Q leaves none; and the laws of places in a list. Assumes nothing.
+-- The laws of `weigh` and `latest`: the latest that weigh at most Q are the longest run of the first, what is too old
+-- for them never counts again, and a block heavier than Q leaves none; and the laws of places in a list. Assumes
+-- nothing.
 use Prim.Native.Nat.{ℕ, zero, suc, _+_, _-_, _≤_, _<_}
 use native.Mathlib.Omega.{arith}
 use mathlib.Core.Path.{_≡_, refl, sym, ap, subst, _∙_}
@@ -55,7 +56,8 @@ latest-all R Q (x ∷ blocks) light =
     ∙ ap (λ l. x ∷ l) (latest-all R (Q - weight R (x .size)) blocks (omega arith))
 
 -- where they weigh more, the last does not
-pub latest-last : (R Q : ℕ) (blocks : List Block) (y : Block) → Q < weigh R (blocks ++ (y ∷ [])) → latest R Q (blocks ++ (y ∷ [])) ≡ latest R Q blocks
+pub latest-last : (R Q : ℕ) (blocks : List Block) (y : Block) → Q < weigh R (blocks ++ (y ∷ []))
+    → latest R Q (blocks ++ (y ∷ [])) ≡ latest R Q blocks
 latest-last R Q [] y heavy =
     latest-heavy R Q y [] (omega (arith, weigh-cons R y [], weigh-nil R)) ∙ sym (latest-nil R Q)
 latest-last R Q (x ∷ blocks) y heavy =
@@ -63,7 +65,8 @@ latest-last R Q (x ∷ blocks) y heavy =
     (λ none·. latest-heavy R Q x (blocks ++ (y ∷ [])) none· ∙ sym (latest-heavy R Q x blocks none·))
     (λ stays.
     latest-light R Q x (blocks ++ (y ∷ [])) stays
-    ∙ ap (λ l. x ∷ l) (latest-last R (Q - weight R (x .size)) blocks y (omega (arith, weigh-cons R x (blocks ++ (y ∷ [])))))
+    ∙ ap (λ l. x ∷ l)
+    (latest-last R (Q - weight R (x .size)) blocks y (omega (arith, weigh-cons R x (blocks ++ (y ∷ [])))))
     ∙ sym (latest-light R Q x blocks stays))
 
 -- what is among the latest of at most Q is all that counts for those of at most P, where P is no more
@@ -84,7 +87,8 @@ latest-within R P Q (x ∷ blocks) less =
     ∙ sym (latest-light R P x blocks light)))
 
 -- so the latest, with one before them, are as those of all
-pub latest-again : (R Q : ℕ) (x : Block) (blocks : List Block) → latest R Q (x ∷ latest R Q blocks) ≡ latest R Q (x ∷ blocks)
+pub latest-again : (R Q : ℕ) (x : Block) (blocks : List Block)
+    → latest R Q (x ∷ latest R Q blocks) ≡ latest R Q (x ∷ blocks)
 latest-again R Q x blocks =
     by-order Q (weight R (x .size))
     (λ heavy. latest-heavy R Q x (latest R Q blocks) heavy ∙ sym (latest-heavy R Q x blocks heavy))
@@ -97,7 +101,8 @@ latest-again R Q x blocks =
 
 -- none, where there is no block, or where the first is heavier than Q
 none-longest : (R Q : ℕ) → LongestRun R Q [] []
-none-longest R Q = record { first = refl; light = omega (arith, weigh-nil R); longest = λ n more upto. absurd (omega arith) }
+none-longest R Q =
+    record { first = refl; light = omega (arith, weigh-nil R); longest = λ n more upto. absurd (omega arith) }
 
 heavy-longest : (R Q : ℕ) (x : Block) (blocks : List Block) → Q < weight R (x .size) → LongestRun R Q (x ∷ blocks) []
 heavy-longest R Q x blocks heavy = record { first = refl; light = omega (arith, weigh-nil R); longest = longer }
@@ -107,7 +112,8 @@ heavy-longest R Q x blocks heavy = record { first = refl; light = omega (arith, 
     longer (suc n) more upto = omega (arith, weigh-cons R x (take n blocks))
 
 -- the first, and the longest run of those after it
-next-longest : (R Q : ℕ) (x : Block) (blocks run : List Block) → weight R (x .size) ≤ Q → LongestRun R (Q - weight R (x .size)) blocks run
+next-longest : (R Q : ℕ) (x : Block) (blocks run : List Block) → weight R (x .size) ≤ Q
+    → LongestRun R (Q - weight R (x .size)) blocks run
     → LongestRun R Q (x ∷ blocks) (x ∷ run)
 next-longest R Q x blocks run light rest = record {
   first = ap (λ l. x ∷ l) (rest .first);
@@ -117,14 +123,16 @@ next-longest R Q x blocks run light rest = record {
   where
     longer : (n : ℕ) → suc (length run) < n → n ≤ length (x ∷ blocks) → Q < weigh R (take n (x ∷ blocks))
     longer zero more upto = absurd (omega arith)
-    longer (suc n) more upto = omega (arith, weigh-cons R x (take n blocks), rest .longest n (omega arith) (omega arith))
+    longer (suc n) more upto =
+        omega (arith, weigh-cons R x (take n blocks), rest .longest n (omega arith) (omega arith))
 
 -- the latest are the longest run of the first that weigh at most Q
 pub latest-longest : (R Q : ℕ) (blocks : List Block) → LongestRun R Q blocks (latest R Q blocks)
 latest-longest R Q [] = subst (LongestRun R Q []) (sym (latest-nil R Q)) (none-longest R Q)
 latest-longest R Q (x ∷ blocks) =
     by-order Q (weight R (x .size))
-    (λ heavy. subst (LongestRun R Q (x ∷ blocks)) (sym (latest-heavy R Q x blocks heavy)) (heavy-longest R Q x blocks heavy))
+    (λ heavy.
+    subst (LongestRun R Q (x ∷ blocks)) (sym (latest-heavy R Q x blocks heavy)) (heavy-longest R Q x blocks heavy))
     (λ light.
     subst (LongestRun R Q (x ∷ blocks)) (sym (latest-light R Q x blocks light))
     (next-longest R Q x blocks (latest R (Q - weight R (x .size)) blocks) light (latest-longest R (Q - weight R (x .size)) blocks)))
@@ -139,7 +147,8 @@ module _ {ℓ} {A : Type ℓ} where
   place-before (x ∷ xs) ys (suc k) below = place-before xs ys k (omega arith)
 
   -- a list whose last place has y ends with y
-  pub place-last : (xs : List A) (y : A) → getElem? xs (length xs - 1) ≡ some y → (rest : List A) × (xs ≡ rest ++ (y ∷ []))
+  pub place-last : (xs : List A) (y : A) → getElem? xs (length xs - 1) ≡ some y
+      → (rest : List A) × (xs ≡ rest ++ (y ∷ []))
   place-last [] y e = absurd (Option·none-ne-some y e)
   place-last (x ∷ []) y e = ([], ap (λ z. z ∷ []) (Option·some-injective x y e))
   place-last (x ∷ z ∷ xs) y e =

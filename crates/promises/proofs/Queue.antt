@@ -1,5 +1,6 @@
--- The laws of the quarantine as a queue: the quarantined rows of a table are a list of blocks, the latest first; a release adds one in
--- front, an eviction takes the last, and once all evictions are done they are the longest run of the latest. Assumes nothing.
+-- The laws of the quarantine as a queue: the quarantined rows of a table are a list of blocks, the latest first; a
+-- release adds one in front, an eviction takes the last, and once all evictions are done they are the longest run of
+-- the latest. Assumes nothing.
 use Prim.Native.Nat.{ℕ, suc, _+_, _-_, _≤_, _<_}
 use native.Mathlib.Numerals.{add-one}
 use native.Mathlib.Decide.{ℕ-discrete}
@@ -15,23 +16,32 @@ use Rattle.rules.specs.Limits.{start-column, size-column, state-column, turn-co
 use Rattle.rules.specs.Lowest.{total}
 use Rattle.rules.specs.Table.{rows, column, size, state, turn, is-quarantined, put-row}
 use Rattle.rules.specs.Grant.{granted-row}
-use Rattle.rules.specs.Release.{if-quarantined, in-quarantine, weight, weights, Pool, oldest, evict-row, evict-oldest, settle, quarantine-row}
+use Rattle.rules.specs.Release.{if-quarantined, in-quarantine, weight, weights, Pool, oldest, evict-row, evict-oldest}
+use Rattle.rules.specs.Release.{settle, quarantine-row}
 use Rattle.rules.proofs.Tests.{by-order}
 use Rattle.rules.proofs.Lowest.{total-same, total-most}
 use Rattle.rules.proofs.Table.{rows-same, length-put-row, column-put-row, column-put-row-other}
-use Rattle.rules.proofs.Release.{Oldest, oldest-some, some-oldest, if-quarantined-no, if-quarantined-same, evict-row-rows, evict-row-empty, evict-row-other, evict-row-turn, evict-row-count, evict-row-weights, evict-oldest-is, settle-done, settle-more, by-evictions, quarantine-row-lengths, quarantine-row-state, quarantine-row-turn, quarantine-row-own, quarantine-row-other, quarantine-row-sum, quarantine-row-weights}
+use Rattle.rules.proofs.Release.{Oldest, oldest-some, some-oldest, if-quarantined-no, if-quarantined-same}
+use Rattle.rules.proofs.Release.{evict-row-rows, evict-row-empty, evict-row-other, evict-row-turn, evict-row-count}
+use Rattle.rules.proofs.Release.{evict-row-weights, evict-oldest-is, settle-done, settle-more, by-evictions}
+use Rattle.rules.proofs.Release.{quarantine-row-lengths, quarantine-row-state, quarantine-row-turn, quarantine-row-own}
+use Rattle.rules.proofs.Release.{quarantine-row-other, quarantine-row-sum, quarantine-row-weights}
 use Rattle.promises.specs.History.{Block, weigh, latest}
 use Rattle.promises.specs.Rows.{_∈_, of-row, RowOf}
 use Rattle.promises.proofs.Laid.{of-row-same}
-use Rattle.promises.proofs.Latest.{weigh-nil, weigh-cons, weigh-append, latest-all, latest-last, place-before, place-last, place-in, in-place}
+use Rattle.promises.proofs.Latest.{weigh-nil, weigh-cons, weigh-append, latest-all, latest-last, place-before}
+use Rattle.promises.proofs.Latest.{place-last, place-in, in-place}
 
--- the quarantined rows are these blocks: as many, of the same weight, each at the place that its turn says, and each turn once
+-- the quarantined rows are these blocks: as many, of the same weight, each at the place that its turn says, and each
+-- turn once
 pub record Queue (R : ℕ) (table : List ℕ) (blocks : List Block) : Type 0 where
   pub count : in-quarantine table ≡ length blocks
   pub weighed : weights R table ≡ weigh R blocks
   pub order : (i : ℕ) → i < rows table → state table i ≡ quarantined
-      → (0 < turn table i) × (turn table i ≤ length blocks) × (getElem? blocks (length blocks - turn table i) ≡ some (of-row table i))
-  pub every-turn : (t : ℕ) → 0 < t → t ≤ length blocks → (i : ℕ) × (i < rows table) × (state table i ≡ quarantined) × (turn table i ≡ t)
+      → (0 < turn table i) × (turn table i ≤ length blocks) ×
+      (getElem? blocks (length blocks - turn table i) ≡ some (of-row table i))
+  pub every-turn : (t : ℕ) → 0 < t → t ≤ length blocks
+      → (i : ℕ) × (i < rows table) × (state table i ≡ quarantined) × (turn table i ≡ t)
   pub once : (i j : ℕ) → i < rows table → j < rows table → state table i ≡ quarantined → state table j ≡ quarantined
       → turn table i ≡ turn table j → i ≡ j
 
@@ -68,7 +78,8 @@ queue-none R table no-row = record {
 
 -- ---- a live row is put
 
-module _ (R : ℕ) (table : List ℕ) (blocks : List Block) (i p s : ℕ) (below : i < rows table) (apart : state table i ≢ quarantined) where
+module _ (R : ℕ) (table : List ℕ) (blocks : List Block) (i p s : ℕ) (below : i < rows table)
+    (apart : state table i ≢ quarantined) where
   -- no quarantined row is the one that was put
   put-apart : (j : ℕ) → state (put-row table i (granted-row p s)) j ≡ quarantined → j ≢ i
   put-apart j held same =
@@ -83,16 +94,19 @@ module _ (R : ℕ) (table : List ℕ) (blocks : List Block) (i p s : ℕ) (below
 
   -- what is summed over the quarantined rows stays
   put-summed : (f : ℕ → ℕ)
-      → total (if-quarantined (put-row table i (granted-row p s)) (λ j. f (size (put-row table i (granted-row p s)) j))) (rows (put-row table i (granted-row p s)))
+      → total (if-quarantined (put-row table i (granted-row p s)) (λ j. f (size (put-row table i (granted-row p s)) j)))
+      (rows (put-row table i (granted-row p s)))
       ≡ total (if-quarantined table (λ j. f (size table j))) (rows table)
   put-summed f =
       let other : List ℕ = put-row table i (granted-row p s) in
       ap (total (if-quarantined other (λ j. f (size other j)))) put-rows
-      ∙ total-same (if-quarantined other (λ j. f (size other j))) (if-quarantined table (λ j. f (size table j))) (rows table)
+      ∙ total-same (if-quarantined other (λ j. f (size other j))) (if-quarantined table (λ j. f (size table j)))
+      (rows table)
       (λ j in-rows.
       elim (ℕ-discrete j i) [
         | yes same ↦
-            if-quarantined-no other (λ k. f (size other k)) j (ne-eqb (state other j) quarantined (λ held. put-apart j held same))
+            if-quarantined-no other (λ k. f (size other k)) j
+            (ne-eqb (state other j) quarantined (λ held. put-apart j held same))
             ∙ sym
             (if-quarantined-no table (λ k. f (size table k)) j
             (ne-eqb (state table j) quarantined (λ held. apart (ap (state table) (sym same) ∙ held))))
@@ -120,7 +134,8 @@ module _ (R : ℕ) (table : List ℕ) (blocks : List Block) (i p s : ℕ) (below
             λ j in-rows held.
             let unlike : j ≢ i = put-apart j held in
             let same : of-row other j ≡ of-row table j =
-            of-row-same other table j (as-it-was start-column j (omega arith) unlike) (as-it-was size-column j (omega arith) unlike) in
+            of-row-same other table j (as-it-was start-column j (omega arith) unlike)
+            (as-it-was size-column j (omega arith) unlike) in
             subst (λ t. Placed blocks t (of-row other j)) (sym (same-turn j held))
             (subst (Placed blocks (turn table j)) (sym same) (q .order j (omega (arith, put-rows)) (before j held)));
         every-turn =
@@ -140,7 +155,8 @@ module _ (R : ℕ) (table : List ℕ) (blocks : List Block) (i p s : ℕ) (below
 
 -- ---- a live row becomes quarantined
 
-module _ (R : ℕ) (pool : Pool) (blocks : List Block) (i : ℕ) (below : i < rows (pool .table)) (has : state (pool .table) i ≡ live) where
+module _ (R : ℕ) (pool : Pool) (blocks : List Block) (i : ℕ) (below : i < rows (pool .table))
+    (has : state (pool .table) i ≡ live) where
   quarantine-rows : rows (quarantine-row pool i .table) ≡ rows (pool .table)
   quarantine-rows = rows-same (quarantine-row pool i .table) (pool .table) (quarantine-row-lengths pool i below .1)
 
@@ -153,19 +169,22 @@ module _ (R : ℕ) (pool : Pool) (blocks : List Block) (i : ℕ) (below : i < ro
   quarantine-count = quarantine-row-sum pool i below (λ _. 1) not-yet
 
   -- it is the latest
-  pub queue-quarantine : Queue R (pool .table) blocks → Queue R (quarantine-row pool i .table) (of-row (pool .table) i ∷ blocks)
+  pub queue-quarantine : Queue R (pool .table) blocks
+      → Queue R (quarantine-row pool i .table) (of-row (pool .table) i ∷ blocks)
   queue-quarantine q =
       let table : List ℕ = pool .table in
       let other : List ℕ = quarantine-row pool i .table in
       let x : Block = of-row table i in
-      let as-it-was : (k j : ℕ) → k < row-numbers → j ≢ i → column k other j ≡ column k table j = quarantine-row-other pool i below in
+      let as-it-was : (k j : ℕ) → k < row-numbers → j ≢ i → column k other j ≡ column k table j =
+      quarantine-row-other pool i below in
       let own-turn : turn other i ≡ in-quarantine table + 1 = quarantine-row-turn pool i below in
       let last-turn : turn other i ≡ suc (length blocks) = omega (arith, q .count) in
       let before : (j : ℕ) → j ≢ i → state other j ≡ quarantined → state table j ≡ quarantined =
       λ j unlike held. sym (as-it-was state-column j (omega arith) unlike) ∙ held in
       let old-turn : (j : ℕ) → j ≢ i → j < rows other → state other j ≡ quarantined → turn other j ≤ length blocks =
       λ j unlike in-rows held.
-      omega (arith, as-it-was turn-column j (omega arith) unlike, q .order j (omega (arith, quarantine-rows)) (before j unlike held) .1) in
+      omega
+      (arith, as-it-was turn-column j (omega arith) unlike, q .order j (omega (arith, quarantine-rows)) (before j unlike held) .1) in
       record {
         count = quarantine-count ∙ ap (λ n. n + 1) (q .count) ∙ add-one (length blocks);
         weighed = omega (arith, quarantine-row-weights pool i below R not-yet, q .weighed, weigh-cons R x blocks);
@@ -182,13 +201,17 @@ module _ (R : ℕ) (pool : Pool) (blocks : List Block) (i : ℕ) (below : i < ro
                   (subst (λ t. Placed (x ∷ blocks) t (of-row other i)) (sym last-turn)
                   (omega arith, omega arith, ap (getElem? (x ∷ blocks)) in-front ∙ ap some (sym own-block)))
               | no unlike ↦
-                  let old : Placed blocks (turn table j) (of-row table j) = q .order j (omega (arith, quarantine-rows)) (before j unlike held) in
-                  let later : suc (length blocks) - turn table j ≡ suc (length blocks - turn table j) = omega (arith, old .1) in
-                  subst (λ t. Placed (x ∷ blocks) t (of-row other j)) (sym (as-it-was turn-column j (omega arith) unlike)) (
+                  let old : Placed blocks (turn table j) (of-row table j) =
+                  q .order j (omega (arith, quarantine-rows)) (before j unlike held) in
+                  let later : suc (length blocks) - turn table j ≡ suc (length blocks - turn table j) =
+                  omega (arith, old .1) in
+                  subst (λ t. Placed (x ∷ blocks) t (of-row other j))
+                  (sym (as-it-was turn-column j (omega arith) unlike)) (
                     old .0,
                     omega (arith, old .1),
                     ap (getElem? (x ∷ blocks)) later ∙ old .2
-                        ∙ ap some (sym (of-row-same other table j (as-it-was start-column j (omega arith) unlike) (as-it-was size-column j (omega arith) unlike))),
+                        ∙ ap some
+                        (sym (of-row-same other table j (as-it-was start-column j (omega arith) unlike) (as-it-was size-column j (omega arith) unlike))),
                   )
             ];
         every-turn =
@@ -215,7 +238,8 @@ module _ (R : ℕ) (pool : Pool) (blocks : List Block) (i : ℕ) (below : i < ro
                   elim (ℕ-discrete k i) [
                     | yes second ↦ absurd (omega (arith, old-turn j unlike in-rows held, ap (turn other) second))
                     | no unlike′ ↦
-                        q .once j k (omega (arith, quarantine-rows)) (omega (arith, quarantine-rows)) (before j unlike held) (before k unlike′ held′)
+                        q .once j k (omega (arith, quarantine-rows)) (omega (arith, quarantine-rows))
+                        (before j unlike held) (before k unlike′ held′)
                         (sym (as-it-was turn-column j (omega arith) unlike) ∙ same ∙ as-it-was turn-column k (omega arith) unlike′)
                   ]
             ];
@@ -224,11 +248,14 @@ module _ (R : ℕ) (pool : Pool) (blocks : List Block) (i : ℕ) (below : i < ro
 -- ---- the oldest is evicted
 
 -- its turn is 1
-oldest-turn : (R : ℕ) (table : List ℕ) (blocks : List Block) (i : ℕ) → Oldest table (rows table) i → Queue R table blocks → turn table i ≡ 1
+oldest-turn : (R : ℕ) (table : List ℕ) (blocks : List Block) (i : ℕ) → Oldest table (rows table) i
+    → Queue R table blocks → turn table i ≡ 1
 oldest-turn R table blocks i o q =
-    let own : Placed blocks (turn table i) (of-row table i) = q .order i (o .below) (eqb-true (state table i) quarantined (o .held)) in
+    let own : Placed blocks (turn table i) (of-row table i) =
+    q .order i (o .below) (eqb-true (state table i) quarantined (o .held)) in
     let first : HasTurn table 1 = q .every-turn 1 (omega arith) (omega (arith, own .0, own .1)) in
-    omega (arith, own .0, first .3, o .least (first .0) (first .1) (eq-eqb (state table (first .0)) quarantined (first .2)))
+    omega
+    (arith, own .0, first .3, o .least (first .0) (first .1) (eq-eqb (state table (first .0)) quarantined (first .2)))
 
 module _ (R : ℕ) (pool : Pool) (rest : List Block) (i : ℕ) (o : Oldest (pool .table) (rows (pool .table)) i) where
   evicted-rows : rows (evict-row pool i .table) ≡ rows (pool .table)
@@ -237,7 +264,8 @@ module _ (R : ℕ) (pool : Pool) (rest : List Block) (i : ℕ) (o : Oldest (pool
   -- no quarantined row is the one that was evicted
   evicted-apart : (j : ℕ) → state (evict-row pool i .table) j ≡ quarantined → j ≢ i
   evicted-apart j held same =
-      omega (arith, evict-row-empty pool i (o .below) state-column (omega arith), ap (state (evict-row pool i .table)) (sym same) ∙ held)
+      omega
+      (arith, evict-row-empty pool i (o .below) state-column (omega arith), ap (state (evict-row pool i .table)) (sym same) ∙ held)
 
   -- of blocks with the oldest at the end, those before it are left
   queue-before : Queue R (pool .table) (rest ++ (of-row (pool .table) i ∷ [])) → Queue R (evict-row pool i .table) rest
@@ -260,13 +288,15 @@ module _ (R : ℕ) (pool : Pool) (rest : List Block) (i : ℕ) (o : Oldest (pool
       λ j in-rows held. evict-row-turn pool i (o .below) j (omega (arith, evicted-rows)) (evicted-apart j held) in
       record {
         count = omega (arith, evict-row-count pool i (o .below) (o .held), q .count);
-        weighed = omega (arith, evict-row-weights pool i (o .below) R (o .held), q .weighed, alone, weigh-append R rest (y ∷ []));
+        weighed = omega
+            (arith, evict-row-weights pool i (o .below) R (o .held), q .weighed, alone, weigh-append R rest (y ∷ []));
         order =
             λ j in-rows held.
             let unlike : j ≢ i = evicted-apart j held in
             let placed : Placed blocks (turn table j) (of-row table j) = old j in-rows held in
             let not-first : turn table j ≢ 1 =
-            λ first. unlike (q .once j i (omega (arith, evicted-rows)) (o .below) (before j held) held-own (first ∙ sym first-turn)) in
+            λ first. unlike
+            (q .once j i (omega (arith, evicted-rows)) (o .below) (before j held) held-own (first ∙ sym first-turn)) in
             let second : 1 < turn table j = omega (arith, placed .0) in
             let same-place : length rest - (turn table j - 1) ≡ length blocks - turn table j = omega arith in
             subst (λ t. Placed rest t (of-row other j)) (sym (lessened-turn j in-rows held)) (
@@ -275,7 +305,8 @@ module _ (R : ℕ) (pool : Pool) (rest : List Block) (i : ℕ) (o : Oldest (pool
               sym (place-before rest (y ∷ []) (length rest - (turn table j - 1)) (omega (arith, placed .1)))
                   ∙ ap (getElem? blocks) same-place
                   ∙ placed .2
-                  ∙ ap some (sym (of-row-same other table j (as-it-was start-column j (omega arith) (omega arith) unlike) (as-it-was size-column j (omega arith) (omega arith) unlike))),
+                  ∙ ap some
+                  (sym (of-row-same other table j (as-it-was start-column j (omega arith) (omega arith) unlike) (as-it-was size-column j (omega arith) (omega arith) unlike))),
             );
         every-turn =
             λ t above upto.
@@ -293,13 +324,16 @@ module _ (R : ℕ) (pool : Pool) (rest : List Block) (i : ℕ) (o : Oldest (pool
       }
 
 -- it is the last
-queue-evict : (R : ℕ) (pool : Pool) (blocks : List Block) (i : ℕ) → Oldest (pool .table) (rows (pool .table)) i → Queue R (pool .table) blocks
+queue-evict : (R : ℕ) (pool : Pool) (blocks : List Block) (i : ℕ) → Oldest (pool .table) (rows (pool .table)) i
+    → Queue R (pool .table) blocks
     → (rest : List Block) × (blocks ≡ rest ++ (of-row (pool .table) i ∷ [])) × Queue R (evict-row pool i .table) rest
 queue-evict R pool blocks i o q =
     let table : List ℕ = pool .table in
-    let own : Placed blocks (turn table i) (of-row table i) = q .order i (o .below) (eqb-true (state table i) quarantined (o .held)) in
+    let own : Placed blocks (turn table i) (of-row table i) =
+    q .order i (o .below) (eqb-true (state table i) quarantined (o .held)) in
     let ends : (rest : List Block) × (blocks ≡ rest ++ (of-row table i ∷ [])) =
-    place-last blocks (of-row table i) (ap (λ t. getElem? blocks (length blocks - t)) (sym (oldest-turn R table blocks i o q)) ∙ own .2) in
+    place-last blocks (of-row table i)
+    (ap (λ t. getElem? blocks (length blocks - t)) (sym (oldest-turn R table blocks i o q)) ∙ own .2) in
     (ends .0, ends .1, queue-before R pool (ends .0) i o (subst (Queue R table) (ends .1) q))
 
 -- ---- once all evictions are done
@@ -308,7 +342,9 @@ queue-evict R pool blocks i o q =
 pub queue-settle : (R Q : ℕ) (pool : Pool) (blocks : List Block) → Queue R (pool .table) blocks
     → Queue R (settle R Q pool .pool .table) (latest R Q blocks)
 queue-settle R Q =
-    by-evictions R Q (λ pool. (blocks : List Block) → Queue R (pool .table) blocks → Queue R (settle R Q pool .pool .table) (latest R Q blocks))
+    by-evictions R Q
+    (λ pool.
+    (blocks : List Block) → Queue R (pool .table) blocks → Queue R (settle R Q pool .pool .table) (latest R Q blocks))
     (λ pool light blocks q.
     subst (λ s. Queue R (s .pool .table) (latest R Q blocks)) (sym (settle-done R Q pool light))
     (subst (Queue R (pool .table)) (sym (latest-all R Q blocks (omega (arith, q .weighed)))) q))
@@ -317,9 +353,11 @@ queue-settle R Q =
     let e : oldest (pool .table) (rows (pool .table)) ≡ some i = some-oldest R Q (pool .table) heavy .1 in
     let o : Oldest (pool .table) (rows (pool .table)) i = oldest-some (pool .table) (rows (pool .table)) i e in
     let y : Block = of-row (pool .table) i in
-    let left : (rest : List Block) × (blocks ≡ rest ++ (y ∷ [])) × Queue R (evict-row pool i .table) rest = queue-evict R pool blocks i o q in
+    let left : (rest : List Block) × (blocks ≡ rest ++ (y ∷ [])) × Queue R (evict-row pool i .table) rest =
+    queue-evict R pool blocks i o q in
     let same : latest R Q (left .0) ≡ latest R Q blocks =
-    sym (latest-last R Q (left .0) y (omega (arith, q .weighed, ap (weigh R) (left .1)))) ∙ ap (latest R Q) (sym (left .1)) in
+    sym (latest-last R Q (left .0) y (omega (arith, q .weighed, ap (weigh R) (left .1))))
+    ∙ ap (latest R Q) (sym (left .1)) in
     subst (λ s. Queue R (s .pool .table) (latest R Q blocks)) (sym (settle-more R Q pool heavy))
     (subst (Queue R (settle R Q (evict-oldest pool) .pool .table)) same
     (ih (left .0) (subst (λ p. Queue R (p .table) (left .0)) (sym (evict-oldest-is pool i e)) (left .2)))))
@@ -331,7 +369,8 @@ pub queue-row : (R : ℕ) (table : List ℕ) (blocks : List Block) → Queue R t
     → RowOf table quarantined y
 queue-row R table blocks q y m =
     let at : (k : ℕ) × (k < length blocks) × (getElem? blocks k ≡ some y) = in-place blocks y m in
-    let found : HasTurn table (length blocks - at .0) = q .every-turn (length blocks - at .0) (omega (arith, at .1)) (omega arith) in
+    let found : HasTurn table (length blocks - at .0) =
+    q .every-turn (length blocks - at .0) (omega (arith, at .1)) (omega arith) in
     let same-place : length blocks - turn table (found .0) ≡ at .0 = omega (arith, at .1, found .3) in (
       found .0,
       found .1,
@@ -343,4 +382,5 @@ queue-row R table blocks q y m =
 -- and the block of each quarantined row is one of them
 pub queue-block : (R : ℕ) (table : List ℕ) (blocks : List Block) → Queue R table blocks
     → (i : ℕ) → i < rows table → state table i ≡ quarantined → of-row table i ∈ blocks
-queue-block R table blocks q i below held = place-in blocks (length blocks - turn table i) (of-row table i) (q .order i below held .2)
+queue-block R table blocks q i below held =
+    place-in blocks (length blocks - turn table i) (of-row table i) (q .order i below held .2)

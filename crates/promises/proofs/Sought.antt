@@ -31,7 +31,7 @@ use Rattle.promises.specs.History.{held}
 use Rattle.promises.specs.History.{nothing-sought, sought-by, seeks, Granted, grants-at, releases-at, did, events}
 use Rattle.promises.specs.History.{History, happens, happen, heard, heard-all}
 use Rattle.promises.specs.Replay.{session, history, live-at, quarantine-at, held-at}
-use Rattle.promises.specs.Rows.{_∈_, past, Apart, Free, Starts, Held, of-row, RowOf, in-use}
+use Rattle.promises.specs.Rows.{_∈_, past, Apart, Free, Starts, HeldRow, of-row, RowOf, in-use}
 use Rattle.promises.specs.Sought.{Theirs, ReleasedBy, Releases, RoomAt, LowestOf, PlacedBy, Placement, DoneBy}
 use Rattle.promises.specs.Sought.{AllSought, ReleasesNothing}
 use Rattle.promises.proofs.History.{release-seeks, release-seeks-nothing, did-grant, did-release, events-done}
@@ -59,7 +59,7 @@ module _ {S R Q : ℕ} {shadow table : List ℕ} {h : History} (stands : Stands 
         high = omega (arith, fits .high, stands .standing .laid .of-shadow);
       };
       apart = λ y m.
-          let row : (i : ℕ) × Held table i × (of-row table i ≡ y) = held-row stands y m in
+          let row : (i : ℕ) × HeldRow table i × (of-row table i ≡ y) = held-row stands y m in
           subst (Apart R (block (granule * p) s)) (row .2)
           (⊎-elim {C = Apart R (block (granule * p) s) (of-row table (row .0))}
           (λ left. inr (omega arith)) (λ right. inl (omega arith))

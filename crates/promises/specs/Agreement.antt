@@ -11,7 +11,7 @@ use Rattle.rules.specs.Limits.{empty, live, quarantined}
 use Rattle.rules.specs.Table.{rows, size, state, turn, row-of, zero-row}
 use Rattle.rules.specs.Release.{in-quarantine, weights}
 use Rattle.promises.specs.History.{Block, has-byte, History, weigh, latest}
-use Rattle.promises.specs.Rows.{_∈_, Apart, Inside, Distinct, Held, of-row, RowOf, in-use, drawn}
+use Rattle.promises.specs.Rows.{_∈_, Apart, Inside, Distinct, HeldRow, of-row, RowOf, in-use, drawn}
 
 -- a row is empty, live or quarantined; an empty row is four zeros, a live one has turn 0, and the quarantined ones have
 -- the turns from 1 on, each once; no two held blocks share a byte; and the shadow is what the table draws
@@ -19,7 +19,7 @@ pub record ShapedAs (S : ℕ) (shadow table : List ℕ) : Type 0 where
   pub states : (i : ℕ) → i < rows table
       → (state table i ≡ empty) ⊎ ((state table i ≡ live) ⊎ (state table i ≡ quarantined))
   pub zeros : (i : ℕ) → i < rows table → state table i ≡ empty → row-of table i ≡ zero-row
-  pub sized : (i : ℕ) → Held table i → 0 < size table i
+  pub sized : (i : ℕ) → HeldRow table i → 0 < size table i
   pub live-turn : (i : ℕ) → i < rows table → state table i ≡ live → turn table i ≡ 0
   pub turns : (i : ℕ) → i < rows table → state table i ≡ quarantined
       → (0 < turn table i) × (turn table i ≤ in-quarantine table)
@@ -27,14 +27,14 @@ pub record ShapedAs (S : ℕ) (shadow table : List ℕ) : Type 0 where
       → (i : ℕ) × (i < rows table) × (state table i ≡ quarantined) × (turn table i ≡ t)
   pub once : (i j : ℕ) → i < rows table → j < rows table
       → state table i ≡ quarantined → state table j ≡ quarantined → turn table i ≡ turn table j → i ≡ j
-  pub no-overlap : (i j : ℕ) → Held table i → Held table j → i ≢ j
+  pub no-overlap : (i j : ℕ) → HeldRow table i → HeldRow table j → i ≢ j
       → (b : ℕ) → has-byte (of-row table i) b ≡ true → has-byte (of-row table j) b ≡ false
   pub shadow-is : shadow ≡ drawn table S 0
 
 -- held blocks are a redzone apart: of any two rows, and of each row and both ends of the arena
 pub record SeparatedIn (S R : ℕ) (table : List ℕ) : Type 0 where
-  pub apart : (i j : ℕ) → Held table i → Held table j → i ≢ j → Apart R (of-row table i) (of-row table j)
-  pub inside : (i : ℕ) → Held table i → Inside S R (of-row table i)
+  pub apart : (i j : ℕ) → HeldRow table i → HeldRow table j → i ≢ j → Apart R (of-row table i) (of-row table j)
+  pub inside : (i : ℕ) → HeldRow table i → Inside S R (of-row table i)
 
 -- the live rows are the live blocks, each listed once, the quarantined rows those in quarantine, and as many blocks are
 -- held as rows are in use; so no row is empty exactly when as many blocks are held as there are rows

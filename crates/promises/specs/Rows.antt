@@ -49,8 +49,8 @@ Distinct (x ∷ blocks) = ((y : Block) → y ∈ blocks → y .address ≢ x .ad
 
 -- ---- rows
 
--- a block is held while live or quarantined
-pub record Held (table : List ℕ) (i : ℕ) : Type 0 where
+-- row i holds a block: it is live or quarantined
+pub record HeldRow (table : List ℕ) (i : ℕ) : Type 0 where
   pub below : i < rows table
   pub has : (state table i ≡ live) ⊎ (state table i ≡ quarantined)
 
