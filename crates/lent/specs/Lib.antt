@@ -1,3 +1,2 @@
--- What the call over a lent session says, and what a caller has who keeps one.
+-- What the call over a lent session says.
 pub mod Calls
-pub mod Kept

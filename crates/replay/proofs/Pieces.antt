@@ -18,6 +18,8 @@ use Rattle.rules.proofs.Feed.{run-append, run-report, line-feeds}
 use Rattle.rules.proofs.Calls.{feed-done, feed-24}
 use Rattle.tally.specs.Tally.{with-answers-zero, with-report}
 use Rattle.tally.proofs.Judged.{with-report-append}
+use Rattle.trace.specs.Feed.{fed as by-rule}
+use Rattle.watcher.proofs.Calls.{feed-call-whole}
 use Rattle.watcher.specs.Calls.{FeedCall}
 use Rattle.replay.specs.declared.offer.Run.{Run}
 use Rattle.replay.specs.Offer.{Kept, Leads, Taken}
@@ -46,28 +48,16 @@ module _ (session : Session) (shadow table part room : List ℕ) where
       subst (Runs (state-of session shadow table) part) (sym (feed-done watcher session (pool-of shadow table) part room (done-lent done)))
       (refl, take-append-seam (run watcher (state-of session shadow table) (take (taken part (length room)) part) .report) _)
 
--- what a feed hands back, as the calls' rule has it
-abbrev fed-of : Fed → List ℕ → List ℕ → List ℕ → FedWith Pool
-fed-of given shadow table room = record { given = given; pool = pool-of shadow table; room = room }
-
 module _ (before : Run) {shadow table part room shadow-after table-after room-after : List ℕ} {fed : Fed} where
-  given-is : FeedCall (before .session) shadow table part room fed shadow-after table-after room-after
-      → fed-of fed shadow-after table-after room-after ≡ feed (before .session) shadow table part room
-  given-is f =
-      let rules : FedWith Pool = feed (before .session) shadow table part room in
-      ap (λ given. fed-of given shadow-after table-after room-after) (f .given)
-      ∙ ap (λ shadow. fed-of (rules .given) shadow table-after room-after) (f .shadow)
-      ∙ ap (λ table. fed-of (rules .given) (rules .pool .shadow) table room-after) (f .table)
-      ∙ ap (fed-of (rules .given) (rules .pool .shadow) (rules .pool .table)) (f .room)
-
   pub kept-taken : {r : Run}
       → FeedCall (before .session) shadow table part room fed shadow-after table-after room-after
       → Kept before fed (length part) room-after r
       → Taken before shadow table part r shadow-after table-after
   kept-taken {r = r} f kept =
       let st : State Pool = state-of (before .session) shadow table in
-      let is : fed-of fed shadow-after table-after room-after ≡ feed (before .session) shadow table part room = given-is f in
-      let rules : Runs st part (fed-of fed shadow-after table-after room-after) =
+      let is : by-rule fed shadow-after table-after room-after ≡ feed (before .session) shadow table part room =
+      feed-call-whole f in
+      let rules : Runs st part (by-rule fed shadow-after table-after room-after) =
       subst (Runs st part) (sym is) (ran (before .session) shadow table part room (sym (ap (λ f. f .given .status) is) ∙ kept .done))
       in
       let bytes : fed .taken ≡ r .taken = sym (kept .taken) in

@@ -1,13 +1,14 @@
 -- A call's statement is one equation, read field by field. Assumes nothing.
 use Prim.Native.Nat.{ℕ}
-use mathlib.Core.Path.{_≡_, ap}
+use mathlib.Core.Path.{_≡_, ap, ap₂, _∙_}
 use mathlib.Core.List.{List}
 use Rattle.rules.specs.declared.Session.{Session}
 use Rattle.rules.specs.declared.Answer.{Answer}
 use Rattle.rules.specs.declared.Opened.{Opened}
 use Rattle.rules.specs.declared.Fed.{Fed}
 use Rattle.rules.specs.Grant.{acted}
-use Rattle.rules.specs.Calls.{OpenedWith, open-with, grant-call, release-call, feed}
+use Rattle.rules.specs.Release.{Pool}
+use Rattle.rules.specs.Calls.{OpenedWith, open-with, grant-call, release-call, FedWith, feed}
 use Rattle.watcher.specs.Calls.{OpenCall, GrantCall, ReleaseCall, FeedCall}
 use Rattle.trace.specs.Feed.{fed}
 
@@ -45,3 +46,12 @@ module _ {session : Session} {shadow table piece room : List ℕ} {r : Fed} {sha
     table = ap (λ f. f .pool .table) e;
     room = ap (λ f. f .room) e;
   }
+
+  -- and the fields together are the rule's record
+  pub feed-call-whole : FeedCall session shadow table piece room r shadow-after table-after room-after
+      → fed r shadow-after table-after room-after ≡ feed session shadow table piece room
+  feed-call-whole f =
+      let rule : FedWith Pool = feed session shadow table piece room in
+      ap (λ given. fed given shadow-after table-after room-after) (f .given)
+      ∙ ap₂ (λ sh ta. fed (rule .given) sh ta room-after) (f .shadow) (f .table)
+      ∙ ap (fed (rule .given) (rule .pool .shadow) (rule .pool .table)) (f .room)

@@ -43,7 +43,7 @@ use Rattle.rules.proofs.Session as S
 use Rattle.rules.proofs.Counts as N
 use Rattle.rules.proofs.Counts.Laws as N′
 use Rattle.lent.specs.Calls.{FeedInPlaceCall}
-use Rattle.lent.proofs.Walk.{cell, pair-of, local-of, address, with-length, sets, gone}
+use Rattle.walks.proofs.Walk.{cell, pair-of, local-of, address, with-length, sets, gone}
 use Rattle.lent.proofs.feed_in_place as feed
 use Rattle.lent.proofs.feed_in_place.Symbol as feed-def
 use Rattle.lent.proofs.feed_in_place.Symbol.{name as #lent·feed-in-place}

@@ -56,7 +56,7 @@ use Rattle.watcher.proofs.feed.Symbol.{name as #watcher·feed}
 use Rattle.watcher.proofs.feed.Met as feed-thm
 use Rattle.lent.specs.Calls.{counts-of}
 use Rattle.lent.proofs.Calls.{in-place}
-use Rattle.lent.proofs.Walk.{cell, pair-of, local-of, field-of, behind, address, with-length, sets, stores, gone}
+use Rattle.walks.proofs.Walk.{cell, pair-of, local-of, field-of, behind, address, with-length, sets, stores, gone}
 use Rattle.lent.proofs.feed_in_place.Key.{name as #lent·feed-in-place}
 use Rattle.lent.proofs.feed_in_place as f
 use Rattle.lent.proofs.feed_in_place.Statement as stated

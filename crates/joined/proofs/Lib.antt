@@ -1,0 +1,2 @@
+-- What the contracts of a program's calls come to.
+pub mod Program

@@ -1,0 +1,1 @@
+// No code: the demands of `promises`, joined with the contracts of the calls.

@@ -1,0 +1,2 @@
+-- The rules that walks by hand are made of.
+pub mod Walk

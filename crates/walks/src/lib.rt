@@ -1,0 +1,1 @@
+// Rules for proofs by hand, and no code: `proofs/Walk.antt`.
