@@ -1,2 +1,3 @@
 -- What the contracts of a program's calls come to.
 pub mod Program
+pub mod Upheld
