@@ -4,9 +4,13 @@ ghost use mathlib.Core.Path.{_≡_};
 ghost use lib.ListN.{length};
 ghost use Rattle.rules.specs.Limits.{answer-bytes};
 ghost use Rattle.rules.specs.Answers.{reply, in-numbers, status};
-ghost use Rattle.rules.specs.Frames.{digit, digits, answer-line};
+ghost use Rattle.rules.specs.Hex.{digit, digits};
+ghost use Rattle.rules.specs.Frames.{answer-line};
 use rules::Answer;
 use rules::Reply;
+use rules::limits::ANSWER_KIND_END;
+use rules::limits::ANSWER_STATUS_END;
+use rules::limits::ANSWER_VALUE_END;
 use rules::limits::LINE_FEED;
 
 fn reply(status: u8, kind: u8, value: u32) -> Reply
@@ -74,15 +78,18 @@ fn put_digits(part: &mut [u8], number: u32)
     }
 }
 
-// Status (2), kind (2), value (8), line feed.
+// The answer's fields, and a line feed.
 pub fn put_answer(part: &mut [u8], answer: Answer)
     requires { ⌜ length (now part) ≡ answer-bytes ⌝ }
     ensures { λ _. ⌜ now (part .exit) ≡ answer-line answer ⌝ }
 {
     let reply = numbers_of(answer);
     let value = reply.value;
-    put_digits(&mut part[0..2], reply.status as u32);
-    put_digits(&mut part[2..4], reply.kind as u32);
-    put_digits(&mut part[4..12], value);
-    part[12] = LINE_FEED;
+    put_digits(&mut part[0..ANSWER_STATUS_END], reply.status as u32);
+    put_digits(
+        &mut part[ANSWER_STATUS_END..ANSWER_KIND_END],
+        reply.kind as u32,
+    );
+    put_digits(&mut part[ANSWER_KIND_END..ANSWER_VALUE_END], value);
+    part[ANSWER_VALUE_END] = LINE_FEED;
 }

@@ -1,9 +1,10 @@
-// Frames out: each answer of the paper's table in numbers, and as the 13 bytes of a report.
+// Frames out: each answer of the paper's table in numbers, and as the bytes of a report.
 use crate::lines_cases::letters;
 use cases::show;
 use cases::show::Three;
 use cases::text;
 use rules::Answer;
+use rules::limits::ANSWER_BYTES;
 
 // The paper's table from 21 on, by the number.
 fn of_calls(status: u64) -> Answer {
@@ -81,16 +82,16 @@ pub fn numbers_of(line: &[u8]) {
 }
 
 fn within(part: &mut [u8], answer: Answer) {
-    if part.len() == 13 {
+    if part.len() == ANSWER_BYTES {
         return answers::put_answer(part, answer);
     }
     show::not_asked();
 }
 
-fn same_bytes(part: &[u8; 13], expected: &[u8; 18]) -> bool {
+fn same_bytes(part: &[u8; ANSWER_BYTES], expected: &[u8; 18]) -> bool {
     let mut same = true;
     let mut i = 0;
-    while i < 13 {
+    while i < ANSWER_BYTES {
         same = same & show::same_number8(part[i], expected[i]);
         i += 1;
     }
@@ -98,7 +99,7 @@ fn same_bytes(part: &[u8; 13], expected: &[u8; 18]) -> bool {
 }
 
 pub fn put_answer(line: &[u8]) {
-    let mut part = [0x7e; 13];
+    let mut part = [0x7e; ANSWER_BYTES];
     within(&mut part, answer_of(line));
     show::case(same_bytes(&part, &letters(line, 4)));
 }

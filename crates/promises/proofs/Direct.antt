@@ -13,11 +13,13 @@ use Rattle.rules.specs.declared.Frame.the-variants.{Grant, Release, Read, Write
 use Rattle.rules.specs.Limits.{frame-digits, line-feed, kind-grant, kind-release, kind-read, kind-write}
 use Rattle.rules.specs.Grant.{grant}
 use Rattle.rules.specs.Release.{release, Pool}
-use Rattle.rules.specs.Frames.{digit, digits, digits-zero, digits-suc, frame, with-zero, frame-of-line, answer-line}
+use Rattle.rules.specs.Hex.{digit, digits, digits-zero, digits-suc}
+use Rattle.rules.specs.Frames.{frame, with-zero, frame-of-line, answer-line}
 use Rattle.rules.specs.Feed.{State, no-bytes, emptied, act-line, finish, hold, after, run, run-nil}
 use Rattle.rules.specs.Watcher.{act, watcher, state-of, outcome}
 use Rattle.rules.proofs.Put.{Each}
-use Rattle.rules.proofs.Frames.{length-digits, frame-written, frame-grant, frame-release, frame-read, frame-write, with-zero-is, line-whole}
+use Rattle.rules.proofs.Hex.{length-digits}
+use Rattle.rules.proofs.Frames.{frame-written, frame-grant, frame-release, frame-read, frame-write, with-zero-is, line-whole}
 use Rattle.rules.proofs.Feed.{SameNumbers, Quiet, run-append, run-numbers, run-quiet}
 use Rattle.rules.proofs.Calls.{grant-as-frame, release-as-frame, access-as-frame}
 use Rattle.promises.specs.Replay.{Idle}

@@ -10,7 +10,7 @@ use mathlib.Core.Option.{some, Option·none-ne-some}
 use mathlib.Core.List.{List, [], _∷_, _++_, append-assoc, append-nil}
 use mathlib.Core.Bool.{Bool, true, false}
 use lib.ListN.{length, take, set, replicate, length-append, drop}
-use lib.Seq.{append-snoc, set-at, take-at, drop-at, take-all, take-append-le}
+use lib.Seq.{append-snoc, set-at}
 use lib.Dec.{eqb}
 use borrow.Author.Tests.{ne-eqb}
 use Rattle.rules.specs.declared.Session.{Session}
@@ -18,12 +18,15 @@ use Rattle.rules.specs.declared.Answer.{Answer}
 use Rattle.rules.specs.declared.Answer.the-variants.{BadLine, BadKind, NotZero}
 use Rattle.rules.specs.declared.Frame.{Frame}
 use Rattle.rules.specs.declared.Frame.the-variants.{Grant, Release, Read, Write, Refused}
-use Rattle.rules.specs.Limits.{frame-digits, too-long, line-feed, kind-grant, kind-release, kind-read, kind-write}
+use Rattle.rules.specs.Field.{Field, width-of, number-of}
+use Rattle.rules.specs.Limits.{frame-digits, too-long, line-feed, answer-fields, answer-status, answer-kind, answer-value, kind-grant, kind-release, kind-read, kind-write}
 use Rattle.rules.specs.Answers.{in-numbers, status}
-use Rattle.rules.specs.Frames.{hex-digit, number, frame-of-line, digit, digits, digits-zero, digits-suc, answer-line, with-zero, frame, frame-of-digits}
+use Rattle.rules.specs.Hex.{hex-digit, number, digit, digits, digits-zero, digits-suc, written, written-nil, written-cons, read-field}
+use Rattle.rules.specs.Frames.{frame-of-line, answer-line, with-zero, frame, frame-of-digits}
 use Rattle.rules.specs.Feed.{no-bytes, lengthened}
 use Rattle.rules.proofs.Tests.{by-order, if-false, by-found}
-use Rattle.rules.proofs.Frames.{hex-digit-digit, no-line-feed, length-digits, number-digits, line-length, number-fits, frame-of-numbers, bad-kind, bad-first, bad-second}
+use Rattle.rules.proofs.Hex.{hex-digit-digit, no-line-feed, number-fits, read-written}
+use Rattle.rules.proofs.Frames.{line-length, frame-of-numbers, bad-kind, bad-first, bad-second}
 use Rattle.rules.proofs.Feed.{lengthened-short, lengthened-long}
 use Rattle.promises.specs.History.{lines-on, lines, status-of, value-of, kind-of}
 
@@ -55,64 +58,57 @@ lines-digits (suc k) n line text =
     ∙ lines-digits k n (line ++ (d ∷ [])) text
     ∙ ap (λ l. lines-on l text) (append-snoc line d (digits k n) ∙ ap (λ ds. line ++ ds) (sym (digits-suc k n)))
 
+-- and a line of fields does
+lines-written : {A : Type 0} (fields : List (Field A)) (a : A) (line text : List ℕ)
+    → lines-on line (written fields a ++ text) ≡ lines-on (line ++ written fields a) text
+lines-written [] a line text =
+    ap (λ w. lines-on line (w ++ text)) (written-nil a)
+    ∙ ap (λ l. lines-on l text) (sym (append-nil line) ∙ ap (λ w. line ++ w) (sym (written-nil a)))
+lines-written (f ∷ fields) a line text =
+    let here : List ℕ = digits (f .width) (f .number a) in
+    ap (λ w. lines-on line (w ++ text)) (written-cons f fields a)
+    ∙ ap (lines-on line) (append-assoc here (written fields a) text)
+    ∙ lines-digits (f .width) (f .number a) line (written fields a ++ text)
+    ∙ lines-written fields a (line ++ here) text
+    ∙ ap (λ l. lines-on l text)
+    (append-assoc line here (written fields a) ∙ ap (λ w. line ++ w) (sym (written-cons f fields a)))
+
 -- ---- the line of an answer
 
--- an answer's 12 digits
+-- an answer's digits
 abbrev pub answer-digits : Answer → List ℕ
-answer-digits answer = digits 2 (in-numbers answer .status) ++ digits 2 (in-numbers answer .kind) ++ digits 8 (in-numbers answer .value)
+answer-digits answer = written answer-fields (in-numbers answer)
 
 -- an answer is one line of the report
-pub lines-answer : (answer : Answer) (text : List ℕ) → lines (answer-line answer ++ text) ≡ answer-digits answer ∷ lines text
+pub lines-answer : (answer : Answer) (text : List ℕ)
+    → lines (answer-line answer ++ text) ≡ answer-digits answer ∷ lines text
 unfolding lines answer-line
 lines-answer answer text =
-    let s : List ℕ = digits 2 (in-numbers answer .status) in
-    let k : List ℕ = digits 2 (in-numbers answer .kind) in
-    let v : List ℕ = digits 8 (in-numbers answer .value) in
-    ap (lines-on [])
-    (append-assoc s (k ++ (v ++ (line-feed ∷ []))) text
-    ∙ ap (λ l. s ++ l) (append-assoc k (v ++ (line-feed ∷ [])) text ∙ ap (λ l. k ++ l) (append-assoc v (line-feed ∷ []) text)))
-    ∙ lines-digits 2 (in-numbers answer .status) [] (k ++ (v ++ (line-feed ∷ text)))
-    ∙ lines-digits 2 (in-numbers answer .kind) s (v ++ (line-feed ∷ text))
-    ∙ lines-digits 8 (in-numbers answer .value) (s ++ k) (line-feed ∷ text)
-    ∙ lines-feed (s ++ k ++ v) text
+    ap (lines-on []) (append-assoc (answer-digits answer) (line-feed ∷ []) text)
+    ∙ lines-written answer-fields (in-numbers answer) [] (line-feed ∷ text)
+    ∙ lines-feed (answer-digits answer) text
 
 -- what it says is read back where it fits the digits
+says : (answer : Answer) (k : ℕ) → number-of answer-fields k (in-numbers answer) < 16 ^ width-of answer-fields k
+    → read-field answer-fields k (answer-digits answer) ≡ some (number-of answer-fields k (in-numbers answer))
+says answer k fits =
+    ap (read-field answer-fields k) (sym (append-nil (answer-digits answer)))
+    ∙ read-written answer-fields (in-numbers answer) k [] fits
+
 pub status-answered : (line : List ℕ) (answer : Answer) → status answer < 16 ^ 2
     → status-of (record { line = line; answer = answer-digits answer }) ≡ some (status answer)
 unfolding status-of status
-status-answered line answer fits =
-    let s : List ℕ = digits 2 (in-numbers answer .status) in
-    let k : List ℕ = digits 2 (in-numbers answer .kind) in
-    let v : List ℕ = digits 8 (in-numbers answer .value) in
-    ap number
-    (take-append-le 2 (s ++ k) v (omega (arith, length-append s k, length-digits 2 (in-numbers answer .status)))
-    ∙ take-at s k 2 (length-digits 2 (in-numbers answer .status)))
-    ∙ number-digits 2 (in-numbers answer .status) fits
+status-answered line answer fits = says answer answer-status fits
 
 pub kind-answered : (line : List ℕ) (answer : Answer) → in-numbers answer .kind < 16 ^ 2
     → kind-of (record { line = line; answer = answer-digits answer }) ≡ some (in-numbers answer .kind)
 unfolding kind-of
-kind-answered line answer fits =
-    let s : List ℕ = digits 2 (in-numbers answer .status) in
-    let k : List ℕ = digits 2 (in-numbers answer .kind) in
-    let v : List ℕ = digits 8 (in-numbers answer .value) in
-    ap (λ l. number (take 2 l))
-    (ap (drop 2) (append-assoc s k v) ∙ drop-at s (k ++ v) 2 (length-digits 2 (in-numbers answer .status)))
-    ∙ ap number (take-at k v 2 (length-digits 2 (in-numbers answer .kind)))
-    ∙ number-digits 2 (in-numbers answer .kind) fits
+kind-answered line answer fits = says answer answer-kind fits
 
 pub value-answered : (line : List ℕ) (answer : Answer) → in-numbers answer .value < 16 ^ 8
     → value-of (record { line = line; answer = answer-digits answer }) ≡ some (in-numbers answer .value)
 unfolding value-of
-value-answered line answer fits =
-    let s : List ℕ = digits 2 (in-numbers answer .status) in
-    let k : List ℕ = digits 2 (in-numbers answer .kind) in
-    let v : List ℕ = digits 8 (in-numbers answer .value) in
-    let four : length (s ++ k) ≡ 4 =
-    length-append s k ∙ ap₂ (λ m n. m + n) (length-digits 2 (in-numbers answer .status)) (length-digits 2 (in-numbers answer .kind)) in
-    ap (λ l. number (take 8 l)) (drop-at (s ++ k) v 4 four)
-    ∙ ap number (take-all 8 v (le-of-eq (length-digits 8 (in-numbers answer .value))))
-    ∙ number-digits 8 (in-numbers answer .value) fits
+value-answered line answer fits = says answer answer-value fits
 
 -- ---- an unfinished line
 

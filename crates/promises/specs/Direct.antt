@@ -7,7 +7,8 @@ use mathlib.Core.List.{List, [], _∷_, _++_}
 use Rattle.rules.specs.Limits.{line-feed, kind-grant, kind-release, kind-read, kind-write}
 use Rattle.rules.specs.Grant.{Acted}
 use Rattle.rules.specs.Release.{Pool}
-use Rattle.rules.specs.Frames.{digits, answer-line}
+use Rattle.rules.specs.Hex.{digits}
+use Rattle.rules.specs.Frames.{answer-line}
 use Rattle.rules.specs.Feed.{State, Ran, run}
 use Rattle.rules.specs.Watcher.{watcher, state-of}
 use Rattle.rules.specs.Calls.{grant-call, release-call, access-call}

@@ -4,14 +4,15 @@ use Prim.Native.Nat.{ℕ, _+_, _-_}
 use mathlib.Core.Bool.{Bool, true, false, _&&_, _||_}
 use mathlib.Core.Option.{Option, none, some}
 use mathlib.Core.List.{List, [], _∷_, _++_}
-use lib.ListN.{length, take, drop}
+use lib.ListN.{length}
 use lib.Dec.{eqb, leb, ltb}
 use Rattle.rules.specs.declared.Frame.{Frame}
 use Rattle.rules.specs.declared.Frame.the-variants.{Grant, Release, Read, Write, Refused}
-use Rattle.rules.specs.Limits.{line-feed}
+use Rattle.rules.specs.Limits.{line-feed, answer-fields, answer-status, answer-kind, answer-value}
 use Rattle.rules.specs.Grant.{counted}
 use Rattle.rules.specs.Release.{weight}
-use Rattle.rules.specs.Frames.{number, frame-of-line}
+use Rattle.rules.specs.Hex.{read-field}
+use Rattle.rules.specs.Frames.{frame-of-line}
 
 -- ---- lines and their answers
 
@@ -43,15 +44,15 @@ exchanges text report = paired (lines text) (lines report)
 unfoldable pub asks : Exchange → Frame
 asks x = frame-of-line (length (x .line)) (x .line)
 
--- what the answer says: status (2), kind (2), value (8)
+-- what the answer says, field by field
 unfoldable pub status-of : Exchange → Option ℕ
-status-of x = number (take 2 (x .answer))
+status-of x = read-field answer-fields answer-status (x .answer)
 
 unfoldable pub kind-of : Exchange → Option ℕ
-kind-of x = number (take 2 (drop 2 (x .answer)))
+kind-of x = read-field answer-fields answer-kind (x .answer)
 
 unfoldable pub value-of : Exchange → Option ℕ
-value-of x = number (take 8 (drop 4 (x .answer)))
+value-of x = read-field answer-fields answer-value (x .answer)
 
 -- ---- blocks
 

@@ -4,6 +4,9 @@ use crate::words;
 use frames::lines;
 use rules::Frame;
 use rules::Session;
+use rules::limits::ANSWER_KIND_END;
+use rules::limits::ANSWER_STATUS_END;
+use rules::limits::ANSWER_VALUE_END;
 use rules::limits::TOO_LONG;
 
 fn access(noun: &[u8], address: u32, length: u32) {
@@ -73,13 +76,15 @@ fn digit(byte: u8) -> u8 {
 
 // The first bad byte and its kind, from an answer's digits.
 fn first_bad(answer: &[u8]) {
-    if 11 < answer.len() {
+    if ANSWER_VALUE_END <= answer.len() {
         say::text(b"not good: first bad byte ");
-        say::text(&answer[4..12]);
+        say::text(&answer[ANSWER_KIND_END..ANSWER_VALUE_END]);
         say::text(b", kind ");
-        say::text(&answer[2..4]);
+        say::text(&answer[ANSWER_STATUS_END..ANSWER_KIND_END]);
         say::text(b": ");
-        words::of_kind(digit(answer[2]) % 16 * 16 + digit(answer[3]) % 16);
+        words::of_kind(
+            digit(answer[ANSWER_STATUS_END]) % 16 * 16 + digit(answer[ANSWER_STATUS_END + 1]) % 16,
+        );
     }
 }
 

@@ -1,4 +1,5 @@
 // The arguments: nine decimal numbers.
+use rules::limits::ANSWER_BYTES;
 ghost use Prim.Native.Nat.{_≤_};
 
 pub struct Options {
@@ -86,8 +87,8 @@ pub fn given() -> Options {
     let quarantine = between(3, 0, 0xffff_ffff);
     let rows = between(4, 0, u64::MAX);
     let piece = between(5, 1, 65_536);
-    // an answer's 13 bytes at least, or a line feed would never be taken
-    let room = between(6, 13, 65_536);
+    // an answer's bytes at least, or a line feed would never be taken
+    let room = between(6, ANSWER_BYTES as u64, 65_536);
     let explain = between(7, 0, 1);
     let progress = between(8, 0, 1);
     let verdict = between(9, 0, 9);

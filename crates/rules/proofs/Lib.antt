@@ -6,6 +6,7 @@ pub mod Table
 pub mod Shadow
 pub mod Grant
 pub mod Release
+pub mod Hex
 pub mod Frames
 pub mod Feed
 pub mod Watcher

@@ -1,5 +1,6 @@
 -- The paper as definitions, in the paper's order. Nothing else has to be believed; the laws are in `proofs/`.
--- What the watcher holds: Limits, Table. Two tools that the rules share: Lowest, Put.
+-- What the watcher holds: Limits, Table. Three tools that the rules share: Field, Lowest, Put.
+pub mod Field
 pub mod Limits
 pub mod Lowest
 pub mod Put
@@ -11,7 +12,8 @@ pub mod Answers
 -- Grant, release, quarantine
 pub mod Grant
 pub mod Release
--- Frames in, frames out
+-- Frames in, frames out, in text
+pub mod Hex
 pub mod Frames
 -- One byte, a text, and how far a piece is taken, whatever engine acts on its lines
 pub mod Feed

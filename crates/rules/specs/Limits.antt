@@ -1,8 +1,12 @@
--- What the watcher holds: the paper's limits and magic bytes, each under one name; and one mark of our own, for no digit.
-use Prim.Native.Nat.{ℕ}
+-- What the watcher holds: the paper's limits and magic bytes, each under one name; and one mark of our own, for no
+-- digit.
+use Prim.Native.Nat.{ℕ, suc, _+_}
 use mathlib.Core.Bool.{Bool, _&&_}
+use mathlib.Core.List.{List, [], _∷_}
 use lib.Dec.{leb}
+use Rattle.rules.specs.declared.Reply.{Reply}
 use Rattle.rules.specs.declared.limits.Limits.{Limits}
+use Rattle.rules.specs.Field.{Field, field, start-of, digits-of}
 
 -- n is from low to high, both counted in
 abbrev pub between : ℕ → ℕ → ℕ → Bool
@@ -63,9 +67,23 @@ line-feed = 0x0a
 abbrev pub no-digit : ℕ
 no-digit = 16
 
+-- an answer's fields: status (2), kind (2), value (8)
+abbrev pub answer-fields : List (Field Reply)
+answer-fields = field 2 (λ reply. reply .status) ∷ field 2 (λ reply. reply .kind) ∷ field 8 (λ reply. reply .value) ∷ []
+
+-- where each stands among them
+abbrev pub answer-status : ℕ
+answer-status = 0
+
+abbrev pub answer-kind : ℕ
+answer-kind = 1
+
+abbrev pub answer-value : ℕ
+answer-value = 2
+
 -- an answer is 13 bytes, its line feed included
 abbrev pub answer-bytes : ℕ
-answer-bytes = 13
+answer-bytes = digits-of answer-fields + 1
 
 -- a row's state
 abbrev pub empty : ℕ
@@ -118,6 +136,9 @@ paper-limits = record {
   «most_redzone» = most-redzone;
   «frame_digits» = frame-digits;
   «too_long» = too-long;
+  «answer_status_end» = start-of answer-fields (suc answer-status);
+  «answer_kind_end» = start-of answer-fields (suc answer-kind);
+  «answer_value_end» = start-of answer-fields (suc answer-value);
   «answer_bytes» = answer-bytes;
   empty = empty;
   live = live;

@@ -14,7 +14,8 @@ use Rattle.rules.specs.Shadow.{leading, inside, shadow-of, addressable, 
 use Rattle.rules.specs.Answers.{in-numbers, status}
 use Rattle.rules.specs.Grant.{counted, granules, fits, place, last-granule, granted, empty-row, grant-at, grant}
 use Rattle.rules.specs.Release.{Pool, starts-at, row-at, if-quarantined, in-quarantine, weight, weights, older, oldest, paint-row, evict-row, evict-oldest, settle-in, settle, quarantine-row, release-row, release}
-use Rattle.rules.specs.Frames.{hex-digit, number-on, number, with-zero, frame, frame-of-digits, frame-of-line, digit, digits, answer-line}
+use Rattle.rules.specs.Hex.{hex-digit, number-on, number, digit, digits, written, read-field}
+use Rattle.rules.specs.Frames.{with-zero, frame, frame-of-digits, frame-of-line, answer-line}
 use Rattle.rules.specs.Feed.{State, Ran, with-line, emptied, lengthened, act-line, finish, hold, step, run, taken}
 use Rattle.rules.specs.Watcher.{of-verdict, access, act, lent-lengths, watcher, state-of}
 use Rattle.rules.specs.Calls.{fresh, table-length, OpenedWith, open-with, unused-zero, within-limits, fits-session, fits-lent, feed-by, feed}
@@ -93,7 +94,7 @@ unfolding bytes text opened open-with table-length status in-numbers run step ho
     judge first-bad kind addressable shadow-of inside leading lowest all-equal total put fill rows column set-number put-row lessened
     counted granules fits place last-granule granted empty-row grant-at grant
     starts-at row-at if-quarantined in-quarantine weight weights older oldest paint-row evict-row evict-oldest settle-in settle quarantine-row release-row release
-    hex-digit number-on number with-zero frame frame-of-digits frame-of-line digit digits answer-line
+    hex-digit number-on number with-zero frame frame-of-digits frame-of-line digit digits written read-field answer-line
     taken unused-zero within-limits lent-lengths fits-session feed-by
 by-the-rules = run watcher
 

@@ -37,8 +37,15 @@ pub const FRAME_DIGITS: usize = 18;
 
 pub const TOO_LONG: usize = 19;
 
+// Where each field of an answer ends: status, kind, value.
+pub const ANSWER_STATUS_END: usize = 2;
+
+pub const ANSWER_KIND_END: usize = ANSWER_STATUS_END + 2;
+
+pub const ANSWER_VALUE_END: usize = ANSWER_KIND_END + 8;
+
 // An answer in the report, its line feed included.
-pub const ANSWER_BYTES: usize = 13;
+pub const ANSWER_BYTES: usize = ANSWER_VALUE_END + 1;
 
 // A row's state.
 pub const EMPTY: u32 = 0;
@@ -85,6 +92,9 @@ pub struct Limits {
     pub most_redzone: usize,
     pub frame_digits: usize,
     pub too_long: usize,
+    pub answer_status_end: usize,
+    pub answer_kind_end: usize,
+    pub answer_value_end: usize,
     pub answer_bytes: usize,
     pub empty: u32,
     pub live: u32,
@@ -118,6 +128,9 @@ pub fn of_the_paper() -> Limits
         most_redzone: MOST_REDZONE,
         frame_digits: FRAME_DIGITS,
         too_long: TOO_LONG,
+        answer_status_end: ANSWER_STATUS_END,
+        answer_kind_end: ANSWER_KIND_END,
+        answer_value_end: ANSWER_VALUE_END,
         answer_bytes: ANSWER_BYTES,
         empty: EMPTY,
         live: LIVE,

@@ -15,7 +15,8 @@ use Rattle.rules.specs.declared.Answer.the-variants.{Done, BadLine, BadKind, No
 use Rattle.rules.specs.Limits.{answer-bytes, line-feed}
 use Rattle.rules.specs.Answers.{in-numbers, status}
 use Rattle.rules.specs.Release.{Pool}
-use Rattle.rules.specs.Frames.{digit, digits, answer-line}
+use Rattle.rules.specs.Hex.{digit, digits, written}
+use Rattle.rules.specs.Frames.{answer-line}
 use Rattle.rules.specs.Feed.{State, act-line, finish, hold, step, run, run-nil, run-cons}
 use Rattle.rules.specs.Watcher.{watcher}
 use Rattle.rules.proofs.Tests.{by-test, if-true, if-false}
@@ -110,7 +111,7 @@ report-zero t report = answers-zero t report (length report / answer-bytes)
 
 -- an answer's number is read back from its line; 10 where it is none of 00 to 09
 number-read : (a : Answer) → status-at (answer-line a) 0 ≡ min (status a) 10
-unfolding status-at units answer-line digits digit status in-numbers
+unfolding status-at units answer-line written digits digit status in-numbers
 number-read (Done value) = refl
 number-read BadLine = refl
 number-read BadKind = refl

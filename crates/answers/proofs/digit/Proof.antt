@@ -2,7 +2,7 @@
 use mathlib.Core.Path.{sym}
 use borrow.Author.Needs.{needs}
 use borrow.Author.Tests.{lt-ltb, le-ltb}
-use Rattle.rules.specs.Frames.{digit}
+use Rattle.rules.specs.Hex.{digit}
 use Rattle.rules.proofs.Tests.{if-true, if-false}
 use Rattle.answers.proofs.digit.Statement.{statement}
 use Rattle.answers.proofs.digit.Tie as tie

@@ -7,7 +7,7 @@ use mathlib.Core.Path.{_≡_, refl, sym, ap, ap₂, _∙_}
 use mathlib.Core.List.{List, _∷_}
 use lib.ListN.{length, drop, set, length-set}
 use lib.Seq.{drop-length, drop-cons, drop-set-lt, getD-set-same}
-use Rattle.rules.specs.Frames.{digit, digits, digits-zero, digits-suc}
+use Rattle.rules.specs.Hex.{digit, digits, digits-zero, digits-suc}
 use Rattle.answers.proofs.put_digits.Statement.{statement}
 use Rattle.answers.proofs.put_digits.Tie as tie
 

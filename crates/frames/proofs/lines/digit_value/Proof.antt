@@ -5,7 +5,7 @@ use mathlib.Core.Path.{refl}
 use mathlib.Core.List.{List, [], _∷_}
 use borrow.Author.Needs.{needs}
 use Rattle.rules.specs.Lowest.{lowest}
-use Rattle.rules.specs.Frames.{hex-digit, digit-value}
+use Rattle.rules.specs.Hex.{hex-digit, digit-value}
 use Rattle.rules.proofs.Lowest.{at-entry}
 use Rattle.frames.proofs.lines.digit_value.Statement.{statement}
 use Rattle.frames.proofs.lines.digit_value.Tie as tie

@@ -10,7 +10,8 @@ use Rattle.rules.specs.declared.Found.{Found}
 use Rattle.rules.specs.declared.Found.the-variants.{One, Nothing}
 use Rattle.rules.specs.Lowest.{answered}
 use Rattle.rules.proofs.Lowest.{answered-one, answered-nothing}
-use Rattle.rules.proofs.Frames.{number-fits, frame-of-numbers, bad-kind, bad-first, bad-second}
+use Rattle.rules.proofs.Hex.{number-fits}
+use Rattle.rules.proofs.Frames.{frame-of-numbers, bad-kind, bad-first, bad-second}
 use Rattle.frames.proofs.lines.frame_of_digits.Statement.{statement}
 use Rattle.frames.proofs.lines.frame_of_digits.Tie as tie
 

@@ -12,8 +12,8 @@ use lib.ListN.{length, getD, drop, drop-of-length-le}
 use lib.Seq.{drop-cons}
 use Rattle.rules.specs.Limits.{no-digit}
 use Rattle.rules.specs.Lowest.{answered}
-use Rattle.rules.specs.Frames.{digit-value, number-on, number-nil, number-cons, number-stop, number}
-use Rattle.rules.proofs.Frames.{value-some, value-none}
+use Rattle.rules.specs.Hex.{digit-value, number-on, number-nil, number-cons, number-stop, number}
+use Rattle.rules.proofs.Hex.{value-some, value-none}
 use Rattle.frames.proofs.lines.number.Statement.{statement}
 use Rattle.frames.proofs.lines.number.Tie as tie
 

@@ -1,15 +1,16 @@
--- `leaf_cases::answers_cases::same_bytes` meets its contract. The invariant: i is at most 13. The measure is what is left of
+-- `leaf_cases::answers_cases::same_bytes` meets its contract. The invariant: i is at most an answer's length. The measure is what is left of
 -- that. Assumes nothing.
 use Prim.Native.Nat.{_-_, _≤_}
 use borrow.Author.Needs.{needs}
+use Rattle.rules.specs.Limits.{answer-bytes}
 use Rattle.leaf_cases.proofs.answers_cases.same_bytes.Statement.{statement}
 use Rattle.leaf_cases.proofs.answers_cases.same_bytes.Tie as tie
 
 abbrev Inv-loop : tie.InvT-loop
-Inv-loop part expected same₀ i₀ same i = i ≤ 13
+Inv-loop part expected same₀ i₀ same i = i ≤ answer-bytes
 
 abbrev μ-loop : tie.MeasureT-loop
-μ-loop part expected same₀ i₀ same i = 13 - i
+μ-loop part expected same₀ i₀ same i = answer-bytes - i
 
 loop-holds : tie.Need-loop-holds Inv-loop μ-loop
 loop-holds c = search needs
