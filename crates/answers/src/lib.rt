@@ -1,10 +1,8 @@
 // Frames out: an answer in the paper's numbers, and in the report's 13 bytes.
-ghost use Prim.Native.Nat.{_<_};
 ghost use mathlib.Core.Path.{_≡_};
 ghost use lib.ListN.{length};
 ghost use Rattle.rules.specs.Limits.{answer-bytes};
 ghost use Rattle.rules.specs.Answers.{reply, in-numbers, status};
-ghost use Rattle.rules.specs.Hex.{digit, digits};
 ghost use Rattle.rules.specs.Frames.{answer-line};
 use rules::Answer;
 use rules::Reply;
@@ -54,30 +52,6 @@ pub fn status_of(answer: Answer) -> u8
     reply.status
 }
 
-// A digit below 16, in lower case.
-fn digit(value: u8) -> u8
-    requires { ⌜ value < 16 ⌝ }
-    ensures { λ r. ⌜ r ≡ digit value ⌝ }
-{
-    if value < 10 {
-        return 0x30 + value;
-    }
-    0x61 + (value - 10)
-}
-
-// As many of a number's lowest digits as the part is long, from the last of them to the first.
-fn put_digits(part: &mut [u8], number: u32)
-    ensures { λ _. ⌜ now (part .exit) ≡ digits (length (now (part .entry))) number ⌝ }
-{
-    let mut left = number;
-    let mut i = part.len();
-    while 0 < i {
-        i -= 1;
-        part[i] = digit((left % 16) as u8);
-        left /= 16;
-    }
-}
-
 // The answer's fields, and a line feed.
 pub fn put_answer(part: &mut [u8], answer: Answer)
     requires { ⌜ length (now part) ≡ answer-bytes ⌝ }
@@ -85,11 +59,11 @@ pub fn put_answer(part: &mut [u8], answer: Answer)
 {
     let reply = numbers_of(answer);
     let value = reply.value;
-    put_digits(&mut part[0..ANSWER_STATUS_END], reply.status as u32);
-    put_digits(
+    hex::put_digits(&mut part[0..ANSWER_STATUS_END], reply.status as u64);
+    hex::put_digits(
         &mut part[ANSWER_STATUS_END..ANSWER_KIND_END],
-        reply.kind as u32,
+        reply.kind as u64,
     );
-    put_digits(&mut part[ANSWER_KIND_END..ANSWER_VALUE_END], value);
+    hex::put_digits(&mut part[ANSWER_KIND_END..ANSWER_VALUE_END], value as u64);
     part[ANSWER_VALUE_END] = LINE_FEED;
 }

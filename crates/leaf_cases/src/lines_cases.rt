@@ -9,8 +9,8 @@ use rules::Frame;
 ghost use Prim.Native.Nat.{_≤_};
 
 fn within(digits: &[u8]) -> Found {
-    if digits.len() <= 8 {
-        return lines::number(digits);
+    if digits.len() <= 16 {
+        return hex::number(digits);
     }
     show::not_asked();
     Found::Nothing

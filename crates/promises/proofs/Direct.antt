@@ -6,24 +6,26 @@ use native.Mathlib.Omega.{arith}
 use mathlib.Core.Path.{_≡_, refl, sym, ap, ap₂, subst, _∙_}
 use mathlib.Core.Logic.{_≢_}
 use mathlib.Core.List.{List, [], _∷_, _++_, append-assoc, append-nil}
-use lib.ListN.{length, length-append}
+use lib.ListN.{length}
 use Rattle.rules.specs.declared.Session.{Session}
+use Rattle.rules.specs.declared.Fields.{Fields}
 use Rattle.rules.specs.declared.Frame.{Frame}
 use Rattle.rules.specs.declared.Frame.the-variants.{Grant, Release, Read, Write, Refused}
-use Rattle.rules.specs.Limits.{frame-digits, line-feed, kind-grant, kind-release, kind-read, kind-write}
+use Rattle.rules.specs.Field.{Field}
+use Rattle.rules.specs.Limits.{frame-fields, frame-digits, line-feed, kind-grant, kind-release, kind-read, kind-write}
 use Rattle.rules.specs.Grant.{grant}
 use Rattle.rules.specs.Release.{release, Pool}
-use Rattle.rules.specs.Hex.{digit, digits, digits-zero, digits-suc}
-use Rattle.rules.specs.Frames.{frame, with-zero, frame-of-line, answer-line}
+use Rattle.rules.specs.Hex.{digit, digits, digits-zero, digits-suc, written, written-nil, written-cons}
+use Rattle.rules.specs.Frames.{fields, frame, with-zero, frame-of-line, answer-line, line-of}
 use Rattle.rules.specs.Feed.{State, no-bytes, emptied, act-line, finish, hold, after, run, run-nil}
 use Rattle.rules.specs.Watcher.{act, watcher, state-of, outcome}
 use Rattle.rules.proofs.Put.{Each}
-use Rattle.rules.proofs.Hex.{length-digits}
-use Rattle.rules.proofs.Frames.{frame-written, frame-grant, frame-release, frame-read, frame-write, with-zero-is, line-whole}
+use Rattle.rules.proofs.Hex.{length-written}
+use Rattle.rules.proofs.Frames.{fields-written, line-asks, frame-grant, frame-release, frame-read, frame-write, with-zero-is, line-whole}
 use Rattle.rules.proofs.Feed.{SameNumbers, Quiet, run-append, run-numbers, run-quiet}
 use Rattle.rules.proofs.Calls.{grant-as-frame, release-as-frame, access-as-frame}
 use Rattle.promises.specs.Replay.{Idle}
-use Rattle.promises.specs.Direct.{line-of, told-as, DirectCalls}
+use Rattle.promises.specs.Direct.{told-as, DirectCalls}
 use Rattle.promises.proofs.Lines.{digit-no-feed, Spells, spells-none, spells-more, spells-asks}
 use Rattle.promises.proofs.Replay.{run-feed, run-byte}
 
@@ -47,6 +49,13 @@ no-feed-digits zero n = subst NoFeed (sym (digits-zero n)) (λ k below. absurd (
 no-feed-digits (suc k) n =
     subst NoFeed (sym (digits-suc k n))
     (no-feed-cons (digit (n / 16 ^ k % 16)) (digits k n) (digit-no-feed (n / 16 ^ k % 16) (mod-lt (n / 16 ^ k) (omega arith))) (no-feed-digits k n))
+
+no-feed-written : {A : Type 0} (fields : List (Field A)) (a : A) → NoFeed (written fields a)
+no-feed-written [] a = subst NoFeed (sym (written-nil a)) (λ k below. absurd (omega arith))
+no-feed-written (f ∷ fields) a =
+    subst NoFeed (sym (written-cons f fields a))
+    (no-feed-append (digits (f .width) (f .number a)) (written fields a)
+    (no-feed-digits (f .width) (f .number a)) (no-feed-written fields a))
 
 -- the session stands for them
 spells-run : (line bytes : List ℕ) (st : State Pool) → NoFeed line → Spells (st .session) bytes → Spells (run watcher st line .state .session) (bytes ++ line)
@@ -104,16 +113,15 @@ line-runs st line k none· no-feed asks-k =
 
 -- the line of a frame of 32-bit numbers asks that frame
 frame-runs : (st : State Pool) (kind A B : ℕ) → st .session ≡ emptied (st .session) → kind < 16 ^ 2 → A < 16 ^ 8 → B < 16 ^ 8
-    → run watcher st (line-of kind A B) ≡ told-as st (act (st .session) (st .pool .shadow) (st .pool .table) (frame kind A B))
+    → run watcher st (line-of (fields kind A B))
+    ≡ told-as st (act (st .session) (st .pool .shadow) (st .pool .table) (frame (fields kind A B)))
 unfolding line-of
 frame-runs st kind A B none· in2 in8 in8′ =
-    let rest : List ℕ = digits 8 A ++ digits 8 B in
-    let line : List ℕ = digits 2 kind ++ rest in
-    let long : length line ≡ frame-digits =
-    omega (arith, length-append (digits 2 kind) rest, length-append (digits 8 A) (digits 8 B), length-digits 2 kind, length-digits 8 A, length-digits 8 B) in
-    line-runs st line (frame kind A B) none·
-    (no-feed-append (digits 2 kind) rest (no-feed-digits 2 kind) (no-feed-append (digits 8 A) (digits 8 B) (no-feed-digits 8 A) (no-feed-digits 8 B)))
-    (ap (λ n. frame-of-line n line) long ∙ line-whole line ∙ frame-written kind A B in2 in8 in8′)
+    let said : Fields = fields kind A B in
+    let line : List ℕ = written frame-fields said in
+    line-runs st line (frame said) none· (no-feed-written frame-fields said)
+    (ap (λ n. frame-of-line n line) (length-written frame-fields said)
+    ∙ line-asks frame-digits line said (line-whole line ∙ fields-written kind A B in2 in8 in8′))
 
 -- ---- the calls
 

@@ -9,7 +9,7 @@ use mathlib.Core.Logic.{_≢_}
 use mathlib.Core.Option.{some, Option·none-ne-some}
 use mathlib.Core.List.{List, [], _∷_, _++_, append-assoc, append-nil}
 use mathlib.Core.Bool.{Bool, true, false}
-use lib.ListN.{length, take, set, replicate, length-append, drop}
+use lib.ListN.{length, set, replicate, length-append}
 use lib.Seq.{append-snoc, set-at}
 use lib.Dec.{eqb}
 use borrow.Author.Tests.{ne-eqb}
@@ -18,15 +18,15 @@ use Rattle.rules.specs.declared.Answer.{Answer}
 use Rattle.rules.specs.declared.Answer.the-variants.{BadLine, BadKind, NotZero}
 use Rattle.rules.specs.declared.Frame.{Frame}
 use Rattle.rules.specs.declared.Frame.the-variants.{Grant, Release, Read, Write, Refused}
-use Rattle.rules.specs.Field.{Field, width-of, number-of}
+use Rattle.rules.specs.Field.{Field}
 use Rattle.rules.specs.Limits.{frame-digits, too-long, line-feed, answer-fields, answer-status, answer-kind, answer-value, kind-grant, kind-release, kind-read, kind-write}
 use Rattle.rules.specs.Answers.{in-numbers, status}
-use Rattle.rules.specs.Hex.{hex-digit, number, digit, digits, digits-zero, digits-suc, written, written-nil, written-cons, read-field}
-use Rattle.rules.specs.Frames.{frame-of-line, answer-line, with-zero, frame, frame-of-digits}
+use Rattle.rules.specs.Hex.{hex-digit, digit, digits, digits-zero, digits-suc, written, written-nil, written-cons}
+use Rattle.rules.specs.Frames.{fields, with-zero, frame, asked, frame-of-line, answer-line}
 use Rattle.rules.specs.Feed.{no-bytes, lengthened}
-use Rattle.rules.proofs.Tests.{by-order, if-false, by-found}
-use Rattle.rules.proofs.Hex.{hex-digit-digit, no-line-feed, number-fits, read-written}
-use Rattle.rules.proofs.Frames.{line-length, frame-of-numbers, bad-kind, bad-first, bad-second}
+use Rattle.rules.proofs.Tests.{by-order, if-false}
+use Rattle.rules.proofs.Hex.{hex-digit-digit, no-line-feed, read-back}
+use Rattle.rules.proofs.Frames.{line-length, by-fields}
 use Rattle.rules.proofs.Feed.{lengthened-short, lengthened-long}
 use Rattle.promises.specs.History.{lines-on, lines, status-of, value-of, kind-of}
 
@@ -89,26 +89,20 @@ lines-answer answer text =
     ∙ lines-feed (answer-digits answer) text
 
 -- what it says is read back where it fits the digits
-says : (answer : Answer) (k : ℕ) → number-of answer-fields k (in-numbers answer) < 16 ^ width-of answer-fields k
-    → read-field answer-fields k (answer-digits answer) ≡ some (number-of answer-fields k (in-numbers answer))
-says answer k fits =
-    ap (read-field answer-fields k) (sym (append-nil (answer-digits answer)))
-    ∙ read-written answer-fields (in-numbers answer) k [] fits
-
 pub status-answered : (line : List ℕ) (answer : Answer) → status answer < 16 ^ 2
     → status-of (record { line = line; answer = answer-digits answer }) ≡ some (status answer)
 unfolding status-of status
-status-answered line answer fits = says answer answer-status fits
+status-answered line answer fits = read-back answer-fields (in-numbers answer) answer-status fits
 
 pub kind-answered : (line : List ℕ) (answer : Answer) → in-numbers answer .kind < 16 ^ 2
     → kind-of (record { line = line; answer = answer-digits answer }) ≡ some (in-numbers answer .kind)
 unfolding kind-of
-kind-answered line answer fits = says answer answer-kind fits
+kind-answered line answer fits = read-back answer-fields (in-numbers answer) answer-kind fits
 
 pub value-answered : (line : List ℕ) (answer : Answer) → in-numbers answer .value < 16 ^ 8
     → value-of (record { line = line; answer = answer-digits answer }) ≡ some (in-numbers answer .value)
 unfolding value-of
-value-answered line answer fits = says answer answer-value fits
+value-answered line answer fits = read-back answer-fields (in-numbers answer) answer-value fits
 
 -- ---- an unfinished line
 
@@ -176,27 +170,14 @@ either P false p q = q
 module _ (P : Frame → Type 0) (bad-line : P (Refused BadLine)) (no-kind : P (Refused BadKind)) (not-zero : P (Refused NotZero))
     (grants : (s : ℕ) → s < 16 ^ 8 → P (Grant s)) (releases : (a : ℕ) → a < 16 ^ 8 → P (Release a))
     (reads : (a n : ℕ) → a < 16 ^ 8 → n < 16 ^ 8 → P (Read a n)) (writes : (a n : ℕ) → a < 16 ^ 8 → n < 16 ^ 8 → P (Write a n)) where
-  by-numbers : (kind A B : ℕ) → A < 16 ^ 8 → B < 16 ^ 8 → P (frame kind A B)
+  by-numbers : (kind A B : ℕ) → A < 16 ^ 8 → B < 16 ^ 8 → P (frame (fields kind A B))
   unfolding frame with-zero
   by-numbers kind A B fits fits′ =
       either P (eqb kind kind-grant) (either P (eqb B 0) (grants A fits) not-zero)
       (either P (eqb kind kind-release) (either P (eqb B 0) (releases A fits) not-zero)
       (either P (eqb kind kind-read) (reads A B fits fits′) (either P (eqb kind kind-write) (writes A B fits fits′) no-kind)))
 
-  by-digits : (line : List ℕ) → P (frame-of-digits line)
-  by-digits line =
-      by-found (number (take 2 line))
-      (λ kind k.
-      by-found (number (take 8 (drop 2 line)))
-      (λ A a.
-      by-found (number (take 8 (drop 10 line)))
-      (λ B b.
-      subst P (sym (frame-of-numbers line kind A B k a b))
-      (by-numbers kind A B (number-fits 8 (drop 2 line) A a) (number-fits 8 (drop 10 line) B b)))
-      (λ b. subst P (sym (bad-second line b)) bad-line))
-      (λ a. subst P (sym (bad-first line a)) bad-line))
-      (λ k. subst P (sym (bad-kind line k)) bad-line)
-
   pub by-line : (n : ℕ) (line : List ℕ) → P (frame-of-line n line)
-  unfolding frame-of-line
-  by-line n line = either P (eqb n frame-digits) (by-digits line) bad-line
+  unfolding frame-of-line asked
+  by-line n line =
+      by-fields (λ l. P (asked l)) bad-line (λ kind A B in2 fits fits′. by-numbers kind A B fits fits′) n line

@@ -3,20 +3,14 @@
 use Prim.Native.Nat.{ℕ, _^_, _<_}
 use mathlib.Core.Path.{_≡_}
 use mathlib.Core.Bool.{true}
-use mathlib.Core.List.{List, [], _∷_, _++_}
-use Rattle.rules.specs.Limits.{line-feed, kind-grant, kind-release, kind-read, kind-write}
+use Rattle.rules.specs.Limits.{kind-grant, kind-release, kind-read, kind-write}
 use Rattle.rules.specs.Grant.{Acted}
 use Rattle.rules.specs.Release.{Pool}
-use Rattle.rules.specs.Hex.{digits}
-use Rattle.rules.specs.Frames.{answer-line}
+use Rattle.rules.specs.Frames.{fields, answer-line, line-of}
 use Rattle.rules.specs.Feed.{State, Ran, run}
 use Rattle.rules.specs.Watcher.{watcher, state-of}
 use Rattle.rules.specs.Calls.{grant-call, release-call, access-call}
 use Rattle.promises.specs.Replay.{Idle}
-
--- a frame's line: kind (2), A (8), B (8), line feed
-unfoldable pub line-of : ℕ → ℕ → ℕ → List ℕ
-line-of kind A B = (digits 2 kind ++ (digits 8 A ++ digits 8 B)) ++ (line-feed ∷ [])
 
 -- the state that a call leaves, and its answer as a line of a report
 abbrev pub told-as : State Pool → Acted → Ran Pool
@@ -27,14 +21,14 @@ told-as st acted = record {
 
 pub record DirectCalls : Type 0 where
   pub grant : (st : State Pool) → Idle st → (s : ℕ) → s < 2 ^ 32
-      → run watcher st (line-of kind-grant s 0)
+      → run watcher st (line-of (fields kind-grant s 0))
       ≡ told-as st (grant-call (st .session) (st .pool .shadow) (st .pool .table) s)
   pub release : (st : State Pool) → Idle st → (a : ℕ) → a < 2 ^ 32
-      → run watcher st (line-of kind-release a 0)
+      → run watcher st (line-of (fields kind-release a 0))
       ≡ told-as st (release-call (st .session) (st .pool .shadow) (st .pool .table) a)
   pub read : (st : State Pool) → Idle st → (a n : ℕ) → a < 2 ^ 32 → n < 2 ^ 32
-      → run watcher st (line-of kind-read a n)
+      → run watcher st (line-of (fields kind-read a n))
       ≡ record { state = st; report = answer-line (access-call (st .session) (st .pool .shadow) (st .pool .table) a n) }
   pub write : (st : State Pool) → Idle st → (a n : ℕ) → a < 2 ^ 32 → n < 2 ^ 32
-      → run watcher st (line-of kind-write a n)
+      → run watcher st (line-of (fields kind-write a n))
       ≡ record { state = st; report = answer-line (access-call (st .session) (st .pool .shadow) (st .pool .table) a n) }

@@ -8,6 +8,7 @@ use mathlib.Core.Option.{none, some}
 use mathlib.Core.List.{List, [], _∷_}
 use lib.ListN.{drop, replicate}
 use Rattle.rules.specs.Limits.{granule, kind-grant}
+use Rattle.rules.specs.Frames.{fields, line-of}
 use Rattle.rules.specs.Feed.{run}
 use Rattle.rules.specs.Watcher.{watcher}
 use Rattle.rules.specs.Night.{bytes, text, opened, trace, answers, shadow-after, table-after, state-after, by-the-rules}
@@ -20,7 +21,6 @@ use Rattle.promises.specs.Replay.{Opening}
 use Rattle.promises.specs.Replay
 use Rattle.promises.specs.Rows.{past, covers, painted, drawn-byte, drawn}
 use Rattle.promises.specs.Cutting.{Call, chain}
-use Rattle.promises.specs.Direct.{line-of}
 
 -- every definition that a text and its report go through: to unfold this one is to unfold them all
 unfoldable pub by-its-events : History → List Exchange → History
@@ -120,8 +120,8 @@ unfolding by-the-rules chain pairs
 night-cut = refl
 
 -- the night's first line, as the line of a direct grant of 13 bytes
-pub direct-line : line-of kind-grant 13 0 ≡ text ("010000000d00000000" ∷ [])
-unfolding by-the-rules line-of
+pub direct-line : line-of (fields kind-grant 13 0) ≡ text ("010000000d00000000" ∷ [])
+unfolding by-the-rules
 direct-line = refl
 
 -- ---- both sides of a limit

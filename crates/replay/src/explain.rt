@@ -2,6 +2,7 @@
 use crate::say;
 use crate::words;
 use frames::lines;
+use rules::Found;
 use rules::Frame;
 use rules::Session;
 use rules::limits::ANSWER_KIND_END;
@@ -67,25 +68,22 @@ fn asked(session: Session) {
     }
 }
 
-fn digit(byte: u8) -> u8 {
-    if b'a' <= byte {
-        return (byte - b'a') % 6 + 10;
-    }
-    byte % 16
-}
-
 // The first bad byte and its kind, from an answer's digits.
 fn first_bad(answer: &[u8]) {
-    if ANSWER_VALUE_END <= answer.len() {
-        say::text(b"not good: first bad byte ");
-        say::text(&answer[ANSWER_KIND_END..ANSWER_VALUE_END]);
-        say::text(b", kind ");
-        say::text(&answer[ANSWER_STATUS_END..ANSWER_KIND_END]);
-        say::text(b": ");
-        words::of_kind(
-            digit(answer[ANSWER_STATUS_END]) % 16 * 16 + digit(answer[ANSWER_STATUS_END + 1]) % 16,
-        );
+    if answer.len() < ANSWER_VALUE_END {
+        return;
     }
+    let value = &answer[ANSWER_KIND_END..ANSWER_VALUE_END];
+    let kind = &answer[ANSWER_STATUS_END..ANSWER_KIND_END];
+    say::text(b"not good: first bad byte ");
+    say::text(value);
+    say::text(b", kind ");
+    say::text(kind);
+    say::text(b": ");
+    let Found::One(kind) = hex::number(kind) else {
+        return;
+    };
+    words::of_kind((kind % 256) as u8);
 }
 
 // Of the line that the session held when its line feed came, and its answer.

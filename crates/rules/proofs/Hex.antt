@@ -199,7 +199,7 @@ length-part : (line : List ℕ) (i n : ℕ) → i + n ≤ length line → length
 length-part line i n room = length-take-le n (drop i line) (omega (arith, length-drop i line))
 
 -- a part of a line in which a byte is no digit says no number
-pub part-none : (line : List ℕ) (i n k : ℕ) → i + n ≤ length line → i ≤ k → k < i + n
+part-none : (line : List ℕ) (i n k : ℕ) → i + n ≤ length line → i ≤ k → k < i + n
     → hex-digit (getD line k 0) ≡ none → number (take n (drop i line)) ≡ none
 unfolding number
 part-none line i n k room from below e =
@@ -207,7 +207,7 @@ part-none line i n k room from below e =
     (ap hex-digit (getD-part line i n k from below) ∙ e)
 
 -- and one of digits says one
-pub part-some : (line : List ℕ) (i n : ℕ) → i + n ≤ length line
+part-some : (line : List ℕ) (i n : ℕ) → i + n ≤ length line
     → ((k : ℕ) → i ≤ k → k < i + n → hex-digit (getD line k 0) ≢ none)
     → (v : ℕ) × (number (take n (drop i line)) ≡ some v)
 unfolding number
@@ -251,6 +251,32 @@ module _ {A : Type 0} where
       ap (λ l. number (take (width-of fields k) l))
       (sym (drop-drop (start-of fields k) (f .width) line) ∙ ap (drop (start-of fields k)) behind)
       ∙ read-written fields a k rest fits
+
+  -- and nothing behind them
+  pub read-back : (fields : List (Field A)) (a : A) (k : ℕ) → number-of fields k a < 16 ^ width-of fields k
+      → read-field fields k (written fields a) ≡ some (number-of fields k a)
+  read-back fields a k fits =
+      ap (read-field fields k) (sym (append-nil (written fields a))) ∙ read-written fields a k [] fits
+
+  -- what a field says fits its digits
+  pub read-fits : (fields : List (Field A)) (k : ℕ) (line : List ℕ) (v : ℕ) → read-field fields k line ≡ some v
+      → v < 16 ^ width-of fields k
+  unfolding read-field
+  read-fits fields k line v e = number-fits (width-of fields k) (drop (start-of fields k) line) v e
+
+  -- a field in which a byte is no digit says no number, and one of digits says one
+  pub field-none : (fields : List (Field A)) (k : ℕ) (line : List ℕ) (i : ℕ)
+      → start-of fields k + width-of fields k ≤ length line → start-of fields k ≤ i
+      → i < start-of fields k + width-of fields k → hex-digit (getD line i 0) ≡ none → read-field fields k line ≡ none
+  unfolding read-field
+  field-none fields k line i room from below e = part-none line (start-of fields k) (width-of fields k) i room from below e
+
+  pub field-some : (fields : List (Field A)) (k : ℕ) (line : List ℕ)
+      → start-of fields k + width-of fields k ≤ length line
+      → ((i : ℕ) → start-of fields k ≤ i → i < start-of fields k + width-of fields k → hex-digit (getD line i 0) ≢ none)
+      → (v : ℕ) × (read-field fields k line ≡ some v)
+  unfolding read-field
+  field-some fields k line room all = part-some line (start-of fields k) (width-of fields k) room all
 
   -- ---- a line written field by field
 

@@ -19,7 +19,7 @@ use Rattle.rules.specs.Answers.{in-numbers, status}
 use Rattle.rules.specs.Shadow.{kind, first-bad, FirstBad}
 use Rattle.rules.specs.Grant.{counted, granules, place, empty-row, grant-at, grant}
 use Rattle.rules.specs.Release.{row-at, release-row, release}
-use Rattle.rules.specs.Frames.{with-zero, frame}
+use Rattle.rules.specs.Frames.{fields, with-zero, frame}
 use Rattle.rules.specs.Watcher.{of-verdict, access, act, watcher, pool-of}
 use Rattle.rules.specs.Calls.{table-length, open-with, within-limits, fits-lent, grant-call, release-call, access-call, unfinished-call, feed}
 use Rattle.rules.specs.declared.Map.{Map}
@@ -106,20 +106,20 @@ refusal (Refused answer) = status answer
 by-frame : (kind A B : ℕ) (P : Frame → Type 0)
     → ((k : Frame) → refusal k ≡ 0 → P k)
     → ((kind ≡ kind-grant → ⊥) → (kind ≡ kind-release → ⊥) → (kind ≡ kind-read → ⊥) → (kind ≡ kind-write → ⊥) → P (Refused BadKind))
-    → (B ≢ 0 → kind-grant ≤ kind → kind ≤ kind-release → P (Refused NotZero)) → P (frame kind A B)
+    → (B ≢ 0 → kind-grant ≤ kind → kind ≤ kind-release → P (Refused NotZero)) → P (frame (fields kind A B))
 unfolding refusal
 by-frame kind A B P asked other not-zero =
     elim (ℕ-discrete kind kind-grant) [
-      | yes e ↦ subst (λ k. P (frame k A B)) (sym e) (subst P (sym (frame-grant A B)) (zeroed (Grant A) refl (omega arith) (omega arith)))
+      | yes e ↦ subst (λ k. P (frame (fields k A B))) (sym e) (subst P (sym (frame-grant A B)) (zeroed (Grant A) refl (omega arith) (omega arith)))
       | no not-grant ↦
           elim (ℕ-discrete kind kind-release) [
-            | yes e ↦ subst (λ k. P (frame k A B)) (sym e) (subst P (sym (frame-release A B)) (zeroed (Release A) refl (omega arith) (omega arith)))
+            | yes e ↦ subst (λ k. P (frame (fields k A B))) (sym e) (subst P (sym (frame-release A B)) (zeroed (Release A) refl (omega arith) (omega arith)))
             | no not-release ↦
                 elim (ℕ-discrete kind kind-read) [
-                  | yes e ↦ subst (λ k. P (frame k A B)) (sym e) (subst P (sym (frame-read A B)) (asked (Read A B) refl))
+                  | yes e ↦ subst (λ k. P (frame (fields k A B))) (sym e) (subst P (sym (frame-read A B)) (asked (Read A B) refl))
                   | no not-read ↦
                       elim (ℕ-discrete kind kind-write) [
-                        | yes e ↦ subst (λ k. P (frame k A B)) (sym e) (subst P (sym (frame-write A B)) (asked (Write A B) refl))
+                        | yes e ↦ subst (λ k. P (frame (fields k A B))) (sym e) (subst P (sym (frame-write A B)) (asked (Write A B) refl))
                         | no not-write ↦ subst P (sym (frame-other kind A B not-grant not-release not-read not-write)) (other not-grant not-release not-read not-write)
                       ]
                 ]
@@ -134,12 +134,12 @@ by-frame kind A B P asked other not-zero =
         ]
 
 -- 18 hex digits are never refused 01
-pub only-01 : (kind A B : ℕ) → refusal (frame kind A B) ≢ 1
+pub only-01 : (kind A B : ℕ) → refusal (frame (fields kind A B)) ≢ 1
 unfolding refusal status in-numbers
 only-01 kind A B =
     by-frame kind A B (λ k. refusal k ≢ 1) (λ k fine e. absurd (omega arith)) (λ a b c d e. absurd (omega arith)) (λ above from small e. absurd (omega arith))
 
-pub only-02 : (kind A B : ℕ) → refusal (frame kind A B) ≡ 2 → kind-grant ≤ kind → kind ≤ kind-write → ⊥
+pub only-02 : (kind A B : ℕ) → refusal (frame (fields kind A B)) ≡ 2 → kind-grant ≤ kind → kind ≤ kind-write → ⊥
 unfolding refusal status in-numbers
 only-02 kind A B =
     by-frame kind A B (λ k. refusal k ≡ 2 → kind-grant ≤ kind → kind ≤ kind-write → ⊥)
@@ -147,7 +147,7 @@ only-02 kind A B =
     (λ a b c d e from upto. omega arith)
     (λ above least small e from upto. omega arith)
 
-pub only-03 : (kind A B : ℕ) → refusal (frame kind A B) ≡ 3 → (B ≢ 0) × (kind-grant ≤ kind) × (kind ≤ kind-release)
+pub only-03 : (kind A B : ℕ) → refusal (frame (fields kind A B)) ≡ 3 → (B ≢ 0) × (kind-grant ≤ kind) × (kind ≤ kind-release)
 unfolding refusal status in-numbers
 only-03 kind A B =
     by-frame kind A B (λ k. refusal k ≡ 3 → (B ≢ 0) × (kind-grant ≤ kind) × (kind ≤ kind-release))

@@ -1,10 +1,12 @@
 -- What the watcher holds: the paper's limits and magic bytes, each under one name; and one mark of our own, for no
 -- digit.
 use Prim.Native.Nat.{ℕ, suc, _+_}
+use mathlib.Core.Path.{_≡_, refl}
 use mathlib.Core.Bool.{Bool, _&&_}
 use mathlib.Core.List.{List, [], _∷_}
 use lib.Dec.{leb}
 use Rattle.rules.specs.declared.Reply.{Reply}
+use Rattle.rules.specs.declared.Fields.{Fields}
 use Rattle.rules.specs.declared.limits.Limits.{Limits}
 use Rattle.rules.specs.Field.{Field, field, start-of, digits-of}
 
@@ -53,9 +55,27 @@ least-redzone = 2
 abbrev pub most-redzone : ℕ
 most-redzone = 256
 
+-- a frame's fields: kind (2), A (8), B (8)
+abbrev pub frame-fields : List (Field Fields)
+frame-fields = field 2 (λ fields. fields .kind) ∷ field 8 (λ fields. fields .a) ∷ field 8 (λ fields. fields .b) ∷ []
+
+-- where each stands among them
+abbrev pub frame-kind : ℕ
+frame-kind = 0
+
+abbrev pub frame-A : ℕ
+frame-A = 1
+
+abbrev pub frame-B : ℕ
+frame-B = 2
+
 -- a frame is 18 hex digits and a line feed; 19 stands for an unfinished line of 19 bytes or more
 abbrev pub frame-digits : ℕ
 frame-digits = 18
+
+-- which are its fields'; a numeral, since a computed fact counts it at each byte
+pub frame-digits-are : frame-digits ≡ digits-of frame-fields
+frame-digits-are = refl
 
 abbrev pub too-long : ℕ
 too-long = 19
@@ -134,6 +154,8 @@ paper-limits = record {
   «row_numbers» = row-numbers;
   «least_redzone» = least-redzone;
   «most_redzone» = most-redzone;
+  «frame_kind_end» = start-of frame-fields (suc frame-kind);
+  «frame_a_end» = start-of frame-fields (suc frame-A);
   «frame_digits» = frame-digits;
   «too_long» = too-long;
   «answer_status_end» = start-of answer-fields (suc answer-status);

@@ -6,7 +6,7 @@ use Prim.Native.Char.{code}
 use mathlib.Core.Path.{_≡_, refl}
 use mathlib.Core.List.{List, [], _∷_, _++_}
 use lib.ListN.{replicate}
-use Rattle.rules.specs.Limits.{row-numbers, line-feed}
+use Rattle.rules.specs.Limits.{row-numbers, line-feed, kind-grant}
 use Rattle.rules.specs.Lowest.{lowest, all-equal, total}
 use Rattle.rules.specs.Put.{put, fill}
 use Rattle.rules.specs.Table.{rows, column, set-number, put-row, lessened}
@@ -15,7 +15,7 @@ use Rattle.rules.specs.Answers.{in-numbers, status}
 use Rattle.rules.specs.Grant.{counted, granules, fits, place, last-granule, granted, empty-row, grant-at, grant}
 use Rattle.rules.specs.Release.{Pool, starts-at, row-at, if-quarantined, in-quarantine, weight, weights, older, oldest, paint-row, evict-row, evict-oldest, settle-in, settle, quarantine-row, release-row, release}
 use Rattle.rules.specs.Hex.{hex-digit, number-on, number, digit, digits, written, read-field}
-use Rattle.rules.specs.Frames.{with-zero, frame, frame-of-digits, frame-of-line, answer-line}
+use Rattle.rules.specs.Frames.{fields, fields-of-digits, fields-of-line, with-zero, frame, asked, frame-of-line, answer-line, line-of}
 use Rattle.rules.specs.Feed.{State, Ran, with-line, emptied, lengthened, act-line, finish, hold, step, run, taken}
 use Rattle.rules.specs.Watcher.{of-verdict, access, act, lent-lengths, watcher, state-of}
 use Rattle.rules.specs.Calls.{fresh, table-length, OpenedWith, open-with, unused-zero, within-limits, fits-session, fits-lent, feed-by, feed}
@@ -94,7 +94,8 @@ unfolding bytes text opened open-with table-length status in-numbers run step ho
     judge first-bad kind addressable shadow-of inside leading lowest all-equal total put fill rows column set-number put-row lessened
     counted granules fits place last-granule granted empty-row grant-at grant
     starts-at row-at if-quarantined in-quarantine weight weights older oldest paint-row evict-row evict-oldest settle-in settle quarantine-row release-row release
-    hex-digit number-on number with-zero frame frame-of-digits frame-of-line digit digits written read-field answer-line
+    hex-digit number-on number digit digits written read-field
+    fields-of-digits fields-of-line with-zero frame asked frame-of-line answer-line line-of
     taken unused-zero within-limits lent-lengths fits-session feed-by
 by-the-rules = run watcher
 
@@ -188,6 +189,11 @@ unfolding by-the-rules
 block-edges = refl
 
 -- ---- frames in
+
+-- the line of a frame: line 1 of the night
+pub line-spelt : line-of (fields kind-grant 13 0) ≡ text ("010000000d00000000" ∷ [])
+unfolding by-the-rules
+line-spelt = refl
 
 -- digits of either case; a carriage return, a digit too few, one too many and an empty line are refused 01, then 02 and 03
 pub lines :

@@ -104,6 +104,19 @@ pub enum Verdict {
     Bad { kind: u8, first: u64 },
 }
 
+// A line's fields as they are written, before anything is made of them.
+pub struct Fields {
+    pub kind: u8,
+    pub a: u32,
+    pub b: u32,
+}
+
+// A line as text: its fields, or that it is not 18 hex digits.
+pub enum Line {
+    Of(Fields),
+    NotDigits,
+}
+
 // What a line asks, or the answer that refuses it.
 pub enum Frame {
     Grant { size: u32 },

@@ -32,8 +32,12 @@ pub const LEAST_REDZONE: usize = 2;
 
 pub const MOST_REDZONE: usize = 256;
 
-// A frame's digits, and the length that stands for any longer line.
-pub const FRAME_DIGITS: usize = 18;
+// Where each field of a frame ends: kind, A, B; and the length that stands for any longer line.
+pub const FRAME_KIND_END: usize = 2;
+
+pub const FRAME_A_END: usize = FRAME_KIND_END + 8;
+
+pub const FRAME_DIGITS: usize = FRAME_A_END + 8;
 
 pub const TOO_LONG: usize = 19;
 
@@ -90,6 +94,8 @@ pub struct Limits {
     pub row_numbers: usize,
     pub least_redzone: usize,
     pub most_redzone: usize,
+    pub frame_kind_end: usize,
+    pub frame_a_end: usize,
     pub frame_digits: usize,
     pub too_long: usize,
     pub answer_status_end: usize,
@@ -126,6 +132,8 @@ pub fn of_the_paper() -> Limits
         row_numbers: ROW_NUMBERS,
         least_redzone: LEAST_REDZONE,
         most_redzone: MOST_REDZONE,
+        frame_kind_end: FRAME_KIND_END,
+        frame_a_end: FRAME_A_END,
         frame_digits: FRAME_DIGITS,
         too_long: TOO_LONG,
         answer_status_end: ANSWER_STATUS_END,

@@ -66,6 +66,9 @@ part-put-digits-start-3 c = search needs
 part-put-digits-end-3 : tie.Need-part-put-digits-end-3
 part-put-digits-end-3 c = search needs
 
+cast-put-digits-3 : tie.Need-cast-put-digits-3
+cast-put-digits-3 c = search needs
+
 put-digits-requires-3 : tie.Need-put-digits-requires-3
 put-digits-requires-3 c κs = search needs
 
@@ -116,6 +119,7 @@ put-answer-spec =
     sub-put-digits-3
     part-put-digits-start-3
     part-put-digits-end-3
+    cast-put-digits-3
     put-digits-requires-3
     slice-write-part
     same-length

@@ -2,7 +2,7 @@
 -- nothing.
 use mathlib.Core.Path.{sym, ap, _∙_}
 use borrow.Author.Needs.{needs}
-use Rattle.rules.specs.Frames.{frame}
+use Rattle.rules.specs.Frames.{fields, frame}
 use Rattle.rules.proofs.Frames.{frame-other}
 use Rattle.frames.proofs.lines.frame.Statement.{statement}
 use Rattle.frames.proofs.lines.frame.Tie as tie
@@ -17,25 +17,25 @@ returns : tie.Need-returns
 unfolding frame
 returns c =
     let asked = c .before .before .args in
-    c .with-zero .ensures ∙ sym (ap (λ k. frame k (asked .a) (asked .b)) (c .before .if1 .taken))
+    c .with-zero .ensures ∙ sym (ap (λ k. frame (fields k (asked .fields .a) (asked .fields .b))) (c .before .if1 .taken))
 
 returns-2 : tie.Need-returns-2
 unfolding frame
 returns-2 c =
     let asked = c .before .before .before .args in
-    c .with-zero2 .ensures ∙ sym (ap (λ k. frame k (asked .a) (asked .b)) (c .before .if2 .taken))
+    c .with-zero2 .ensures ∙ sym (ap (λ k. frame (fields k (asked .fields .a) (asked .fields .b))) (c .before .if2 .taken))
 
 returns-3 : tie.Need-returns-3
 unfolding frame
 returns-3 c =
     let asked = c .before .before .before .args in
-    sym (ap (λ k. frame k (asked .a) (asked .b)) (c .if3 .taken))
+    sym (ap (λ k. frame (fields k (asked .fields .a) (asked .fields .b))) (c .if3 .taken))
 
 returns-4 : tie.Need-returns-4
 unfolding frame
 returns-4 c =
     let asked = c .before .before .before .before .args in
-    sym (ap (λ k. frame k (asked .a) (asked .b)) (c .if4 .taken))
+    sym (ap (λ k. frame (fields k (asked .fields .a) (asked .fields .b))) (c .if4 .taken))
 
 returns-5 : tie.Need-returns-5
 returns-5 c =

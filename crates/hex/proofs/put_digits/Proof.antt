@@ -1,4 +1,4 @@
--- `answers::put_digits` meets its contract. The loop's invariant: of the digits, those from `i` on are written, and `left` is
+-- `hex::put_digits` meets its contract. The loop's invariant: of the digits, those from `i` on are written, and `left` is
 -- the number without them. The measure is `i`. Assumes nothing.
 use Prim.Native.Nat.{ℕ, suc, _-_, _/_, _%_, _^_, _≤_, _<_}
 use native.Mathlib.Nat.{div-div-eq-div-mul, div-one, mul-comm, mod-lt, pow-succ', sub-self}
@@ -8,8 +8,8 @@ use mathlib.Core.List.{List, _∷_}
 use lib.ListN.{length, drop, set, length-set}
 use lib.Seq.{drop-length, drop-cons, drop-set-lt, getD-set-same}
 use Rattle.rules.specs.Hex.{digit, digits, digits-zero, digits-suc}
-use Rattle.answers.proofs.put_digits.Statement.{statement}
-use Rattle.answers.proofs.put_digits.Tie as tie
+use Rattle.hex.proofs.put_digits.Statement.{statement}
+use Rattle.hex.proofs.put_digits.Tie as tie
 
 record Written (size number : ℕ) (part : List ℕ) (left i : ℕ) : Type 0 where
   same : length part ≡ size

@@ -1,19 +1,21 @@
--- `frames::lines::frame_of_digits` meets its contract: what `number` finds in each of the three parts of the line is what the
+-- `frames::lines::fields_of_digits` meets its contract: what `number` finds in each of the three parts of the line is what the
 -- definition asks of it, and a number of 2 digits fits 8 bits, one of 8 digits 32. Assumes nothing.
 use Prim.Native.Nat.{ℕ}
 use native.Mathlib.Omega.{arith}
-use mathlib.Core.Path.{_≡_, sym, _∙_}
+use mathlib.Core.Path.{_≡_, sym, ap, _∙_}
 use mathlib.Core.Option.{Option, none, some}
-use lib.ListN.{drop}
 use borrow.Author.Needs.{needs}
 use Rattle.rules.specs.declared.Found.{Found}
 use Rattle.rules.specs.declared.Found.the-variants.{One, Nothing}
+use Rattle.rules.specs.declared.Line.the-variants.{Of}
 use Rattle.rules.specs.Lowest.{answered}
 use Rattle.rules.proofs.Lowest.{answered-one, answered-nothing}
-use Rattle.rules.proofs.Hex.{number-fits}
-use Rattle.rules.proofs.Frames.{frame-of-numbers, bad-kind, bad-first, bad-second}
-use Rattle.frames.proofs.lines.frame_of_digits.Statement.{statement}
-use Rattle.frames.proofs.lines.frame_of_digits.Tie as tie
+use Rattle.rules.specs.Limits.{frame-fields, frame-kind, frame-A, frame-B}
+use Rattle.rules.specs.Hex.{read-field}
+use Rattle.rules.proofs.Hex.{read-fits}
+use Rattle.rules.proofs.Frames.{fields-of-numbers, bad-kind, bad-first, bad-second}
+use Rattle.frames.proofs.lines.fields_of_digits.Statement.{statement}
+use Rattle.frames.proofs.lines.fields_of_digits.Tie as tie
 
 -- what a search is found to be, of what it answered
 is : {found : Found} (o : Option ℕ) (k : ℕ) → found ≡ answered o → found ≡ One k → o ≡ some k
@@ -41,6 +43,7 @@ enum-told : tie.Need-enum-told
 enum-told c = search needs
 
 returns : tie.Need-returns
+unfolding read-field
 returns c = sym (bad-kind _ (is-not _ (c .before .before .number .ensures) (c .enum-told .given .1)))
 
 sub-number-2 : tie.Need-sub-number-2
@@ -62,6 +65,7 @@ enum-told-2 : tie.Need-enum-told-2
 enum-told-2 c = search needs
 
 returns-2 : tie.Need-returns-2
+unfolding read-field
 returns-2 c = sym (bad-first _ (is-not _ (c .before .before .number2 .ensures) (c .enum-told2 .given .1)))
 
 sub-number-3 : tie.Need-sub-number-3
@@ -83,45 +87,62 @@ enum-told-3 : tie.Need-enum-told-3
 enum-told-3 c = search needs
 
 returns-3 : tie.Need-returns-3
+unfolding read-field
 returns-3 c = sym (bad-second _ (is-not _ (c .before .before .number3 .ensures) (c .enum-told3 .given .1)))
 
-cast-frame : tie.Need-cast-frame
-cast-frame c =
+cast-fields : tie.Need-cast-fields
+unfolding read-field
+cast-fields c =
     let second = c .before .before .before .before .before .before in
     let first = second .before .before .before .before .before .before in
     let line = first .before .before .before .before .before .before .args .t1 in
-    omega (arith, number-fits 2 line _ (is _ _ (first .before .before .before .number .ensures) (first .before .kind .given .1)))
+    omega (
+      arith,
+      read-fits frame-fields frame-kind line _
+          (is _ _ (first .before .before .before .number .ensures) (first .before .kind .given .1)),
+    )
 
-cast-frame-2 : tie.Need-cast-frame-2
-cast-frame-2 c =
+cast-fields-2 : tie.Need-cast-fields-2
+unfolding read-field
+cast-fields-2 c =
     let second = c .before .before .before .before .before .before in
     let first = second .before .before .before .before .before .before in
     let line = first .before .before .before .before .before .before .args .t1 in
-    omega (arith, number-fits 8 (drop 2 line) _ (is _ _ (second .before .before .before .number2 .ensures) (second .before .a .given .1)))
+    omega (
+      arith,
+      read-fits frame-fields frame-A line _
+          (is _ _ (second .before .before .before .number2 .ensures) (second .before .a .given .1)),
+    )
 
-cast-frame-3 : tie.Need-cast-frame-3
-cast-frame-3 c =
+cast-fields-3 : tie.Need-cast-fields-3
+unfolding read-field
+cast-fields-3 c =
     let second = c .before .before .before .before .before .before in
     let first = second .before .before .before .before .before .before in
     let line = first .before .before .before .before .before .before .args .t1 in
-    omega (arith, number-fits 8 (drop 10 line) _ (is _ _ (c .before .before .before .number3 .ensures) (c .before .b .given .1)))
+    omega (
+      arith,
+      read-fits frame-fields frame-B line _
+          (is _ _ (c .before .before .before .number3 .ensures) (c .before .b .given .1)),
+    )
 
-frame-requires : tie.Need-frame-requires
-frame-requires c κs = search needs
+fields-requires : tie.Need-fields-requires
+fields-requires c κs = search needs
 
 returns-4 : tie.Need-returns-4
+unfolding read-field
 returns-4 c =
     let third = c .before in
     let second = third .before .before .before .before .before .before in
     let first = second .before .before .before .before .before .before in
-    c .frame .ensures
-    ∙ sym (frame-of-numbers _ _ _ _
+    ap Of (c .fields .ensures)
+    ∙ sym (fields-of-numbers _ _ _ _
     (is _ _ (first .before .before .before .number .ensures) (first .before .kind .given .1))
     (is _ _ (second .before .before .before .number2 .ensures) (second .before .a .given .1))
     (is _ _ (third .before .before .before .number3 .ensures) (third .before .b .given .1)))
 
-pub frame-of-digits-spec : {M : Type 1} → statement M
-frame-of-digits-spec =
+pub fields-of-digits-spec : {M : Type 1} → statement M
+fields-of-digits-spec =
     tie.close
     (tie.spec
     sub-number
@@ -145,8 +166,8 @@ frame-of-digits-spec =
     enum-known-b
     enum-told-3
     returns-3
-    cast-frame
-    cast-frame-2
-    cast-frame-3
-    frame-requires
+    cast-fields
+    cast-fields-2
+    cast-fields-3
+    fields-requires
     returns-4)

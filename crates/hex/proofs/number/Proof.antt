@@ -1,4 +1,4 @@
--- `frames::lines::number` meets its contract. The loop's invariant: what the digits say is what those from `i` on say, read on from
+-- `hex::number` meets its contract. The loop's invariant: what the digits say is what those from `i` on say, read on from
 -- `said`, which has at most `i` digits. The measure is what is left of the length. Assumes nothing.
 use Prim.Native.Nat.{ℕ, suc, _+_, _-_, _*_, _^_, _≤_, _<_}
 use native.Mathlib.Nat.{lt-of-lt-of-le, pow-succ', pow-le-pow-right}
@@ -14,8 +14,8 @@ use Rattle.rules.specs.Limits.{no-digit}
 use Rattle.rules.specs.Lowest.{answered}
 use Rattle.rules.specs.Hex.{digit-value, number-on, number-nil, number-cons, number-stop, number}
 use Rattle.rules.proofs.Hex.{value-some, value-none}
-use Rattle.frames.proofs.lines.number.Statement.{statement}
-use Rattle.frames.proofs.lines.number.Tie as tie
+use Rattle.hex.proofs.number.Statement.{statement}
+use Rattle.hex.proofs.number.Tie as tie
 
 record Read (digits : List ℕ) (said i : ℕ) : Type 0 where
   within : i ≤ length digits
@@ -33,9 +33,9 @@ stop : (n : ℕ) (bs : List ℕ) (i : ℕ) → i < length bs → no-digit ≤ di
 stop n bs i inside not-one =
     ap (number-on n) (drop-cons bs i 0 inside) ∙ number-stop n (getD bs i 0) (drop (suc i) bs) (value-none (getD bs i 0) not-one)
 
--- before the last of 8 digits, seven are read at most
-small : {said i : ℕ} → said < 16 ^ i → i < 8 → said < 16 ^ 7
-small below few = lt-of-lt-of-le below (pow-le-pow-right (omega arith) {j = 7} (omega arith))
+-- before the last of 16 digits, fifteen are read at most
+small : {said i : ℕ} → said < 16 ^ i → i < 16 → said < 16 ^ 15
+small below few = lt-of-lt-of-le below (pow-le-pow-right (omega arith) {j = 15} (omega arith))
 
 abbrev Inv-loop : tie.InvT-loop
 Inv-loop digits said₀ i₀ said i = Read digits said i

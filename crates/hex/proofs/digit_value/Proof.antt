@@ -1,4 +1,4 @@
--- `frames::lines::digit_value` meets its contract: the rule of the table is one test over its 256 entries, which antt computes, and
+-- `hex::digit_value` meets its contract: the rule of the table is one test over its 256 entries, which antt computes, and
 -- `at-entry` carries it to the lookup. Assumes nothing.
 use Prim.Native.Nat.{ℕ}
 use mathlib.Core.Path.{refl}
@@ -7,8 +7,8 @@ use borrow.Author.Needs.{needs}
 use Rattle.rules.specs.Lowest.{lowest}
 use Rattle.rules.specs.Hex.{hex-digit, digit-value}
 use Rattle.rules.proofs.Lowest.{at-entry}
-use Rattle.frames.proofs.lines.digit_value.Statement.{statement}
-use Rattle.frames.proofs.lines.digit_value.Tie as tie
+use Rattle.hex.proofs.digit_value.Statement.{statement}
+use Rattle.hex.proofs.digit_value.Tie as tie
 
 -- the code's table
 entries : List ℕ

@@ -1,11 +1,11 @@
--- `answers::digit` meets its contract: each return opens the choice of `digit` by the test that led there. Assumes nothing.
+-- `hex::digit` meets its contract: each return opens the choice of `digit` by the test that led there. Assumes nothing.
 use mathlib.Core.Path.{sym}
 use borrow.Author.Needs.{needs}
 use borrow.Author.Tests.{lt-ltb, le-ltb}
 use Rattle.rules.specs.Hex.{digit}
 use Rattle.rules.proofs.Tests.{if-true, if-false}
-use Rattle.answers.proofs.digit.Statement.{statement}
-use Rattle.answers.proofs.digit.Tie as tie
+use Rattle.hex.proofs.digit.Statement.{statement}
+use Rattle.hex.proofs.digit.Tie as tie
 
 add-result : tie.Need-add-result
 add-result c = search needs
