@@ -1,18 +1,33 @@
 -- What an answer adds to a tally, by its cases. Assumes nothing.
-use Prim.Native.Nat.{ℕ, _+_, _-_, _*_}
+use Prim.Native.Nat.{ℕ, suc, _+_, _*_, _≤_, _<_}
 use mathlib.Core.Path.{_≡_, sym, ap, _∙_}
 use mathlib.Core.List.{List}
 use native.Mathlib.Omega.{arith}
-use borrow.Author.Tests.{eq-eqb, ne-eqb}
-use Rattle.rules.specs.Limits.{answer-bytes}
-use Rattle.rules.proofs.Tests.{if-true, if-false, between-low}
+use lib.ListN.{length, take, drop, length-drop}
+use borrow.Author.Tests.{eq-eqb, ne-eqb, lt-ltb, le-ltb}
+use Rattle.rules.specs.Field.{start-of}
+use Rattle.rules.specs.Limits.{answer-fields, answer-status, answer-bytes}
+use Rattle.rules.specs.Lowest.{answered}
+use Rattle.rules.specs.Hex.{number, read-field}
+use Rattle.rules.proofs.Tests.{if-true, if-false}
 use Rattle.tally.specs.declared.Tally.{Tally}
-use Rattle.tally.specs.Tally.{tally, more, units, status-at, counted, further, with-answer, with-answers, with-answers-suc}
+use Rattle.tally.specs.Tally.{tally, more, counted-as, status-in, status-at, counted, further, with-answer, with-answers, with-answers-suc}
 
--- what is read beyond a report's end is no digit
-pub units-zero : units 0 ≡ 10
-unfolding units
-units-zero = if-false (0 - 0x30) 10 (between-low 0x30 0x39 0 (omega arith))
+-- how many bytes of an answer its status takes
+abbrev pub status-end : ℕ
+status-end = start-of answer-fields (suc answer-status)
+
+-- fewer say none, and as many say it
+pub status-short : (report : List ℕ) (at : ℕ) → length report < at + status-end → status-at report at ≡ 10
+unfolding status-at status-in
+status-short report at short =
+    if-true _ _ (lt-ltb (length (drop at report)) status-end (omega (arith, length-drop at report)))
+
+pub status-said : (report : List ℕ) (at : ℕ) → at + status-end ≤ length report
+    → status-at report at ≡ counted-as (answered (number (take status-end (drop at report))))
+unfolding status-at status-in read-field
+status-said report at whole =
+    if-false _ _ (le-ltb (length (drop at report)) status-end (omega (arith, length-drop at report)))
 
 module _ (t : Tally) (status : ℕ) {lines : ℕ} {answers : List ℕ} (more-is : lines ≡ more (t .lines)) (counted-is : answers ≡ counted (t .answers) status) where
   pub noted-is : t .first ≡ 0 → (status ≡ 0 → ⊥) → tally lines answers lines status ≡ with-answer t status

@@ -4,18 +4,18 @@ use native.Mathlib.Decide.{ℕ-discrete}
 use native.Mathlib.Omega.{arith}
 use mathlib.Core.Path.{_≡_, refl, sym, ap, ap₂, subst, _∙_}
 use mathlib.Core.Logic.{_⊎_, inl, inr}
-use mathlib.Core.Bool.{true, false}
 use mathlib.Core.List.{List, [], _∷_, _++_}
-use lib.ListN.{length, getD, length-append, List·getD-append}
-use lib.Seq.{getD-append-add}
-use lib.Dec.{eqb, ltb}
-use borrow.Author.Tests.{eq-eqb, ne-eqb, ltb-false}
+use lib.ListN.{length, drop, length-append, length-drop}
+use lib.Seq.{take-append-le, drop-append-le, drop-append-add}
+use lib.Dec.{ltb}
+use borrow.Author.Tests.{eq-eqb, ne-eqb, ltb-false, le-ltb}
 use Rattle.rules.specs.declared.Answer.{Answer}
 use Rattle.rules.specs.declared.Answer.the-variants.{Done, BadLine, BadKind, NotZero, NoRow, NoPlace, NotHeld, Released, NotGood, BadShadowLength, BadRedzone, BadTableLength, BadSession, BeyondMap, InGap}
 use Rattle.rules.specs.Limits.{answer-bytes, line-feed}
+use Rattle.rules.specs.Lowest.{answered}
 use Rattle.rules.specs.Answers.{in-numbers, status}
 use Rattle.rules.specs.Release.{Pool}
-use Rattle.rules.specs.Hex.{digit, digits, written}
+use Rattle.rules.specs.Hex.{hex-digit, number-on, number, digit, digits, written, read-field}
 use Rattle.rules.specs.Frames.{answer-line}
 use Rattle.rules.specs.Feed.{State, act-line, finish, hold, step, run, run-nil, run-cons}
 use Rattle.rules.specs.Watcher.{watcher}
@@ -23,26 +23,30 @@ use Rattle.rules.proofs.Tests.{by-test, if-true, if-false}
 use Rattle.rules.proofs.Frames.{length-answer}
 use Rattle.rules.proofs.Feed.{step-line-feed, step-byte, by-byte, by-first, finish-report, run-append, run-report, line-feeds}
 use Rattle.tally.specs.declared.Tally.{Tally}
-use Rattle.tally.specs.Tally.{none, more, units, status-at, with-answer, with-answers, with-answers-zero, with-answers-suc, with-report, verdict}
+use Rattle.tally.specs.Tally.{none, more, counted-as, status-in, status-at, with-answer, with-answers, with-answers-zero, with-answers-suc, with-report, verdict}
 use Rattle.tally.specs.Verdict.{Passed, judged}
-use Rattle.tally.proofs.Counting.{noted-is, further-done, further-later}
+use Rattle.tally.proofs.Counting.{status-end, noted-is, further-done, further-later}
 
 -- ---- a report in two parts
 
--- the number that two digits say
-abbrev of-digits : ℕ → ℕ → ℕ
-of-digits tens ones = elim (eqb tens 0x30) [ true ↦ units ones | false ↦ 10 ]
+-- what stands behind a status is not looked at
+status-front : (answer more : List ℕ) → status-end ≤ length answer → status-in (answer ++ more) ≡ status-in answer
+unfolding status-in read-field
+status-front answer more whole =
+    if-false _ _ (le-ltb (length (answer ++ more)) status-end (omega (arith, length-append answer more)))
+    ∙ ap (λ digits. counted-as (answered (number digits))) (take-append-le status-end answer more whole)
+    ∙ sym (if-false _ _ (le-ltb (length answer) status-end whole))
 
 module _ (first second : List ℕ) where
   status-first : (at : ℕ) → at + 1 < length first → status-at (first ++ second) at ≡ status-at first at
   unfolding status-at
-  status-first at within = ap₂ of-digits (List·getD-append first second 0 at (omega arith)) (List·getD-append first second 0 (at + 1) within)
+  status-first at within =
+      ap status-in (drop-append-le at first second (omega arith))
+      ∙ status-front (drop at first) second (omega (arith, length-drop at first))
 
   status-second : (at : ℕ) → status-at (first ++ second) (length first + at) ≡ status-at second at
   unfolding status-at
-  status-second at =
-      let further : length first + at + 1 ≡ length first + (at + 1) = omega arith in
-      ap₂ of-digits (getD-append-add first second at 0) (ap (λ n. getD (first ++ second) n 0) further ∙ getD-append-add first second (at + 1) 0)
+  status-second at = ap status-in (drop-append-add first second at)
 
   answers-first : (t : Tally) (n : ℕ) → answer-bytes * n ≤ length first → with-answers t (first ++ second) n ≡ with-answers t first n
   answers-first t zero within = with-answers-zero t (first ++ second) ∙ sym (with-answers-zero t first)
@@ -111,7 +115,7 @@ report-zero t report = answers-zero t report (length report / answer-bytes)
 
 -- an answer's number is read back from its line; 10 where it is none of 00 to 09
 number-read : (a : Answer) → status-at (answer-line a) 0 ≡ min (status a) 10
-unfolding status-at units answer-line written digits digit status in-numbers
+unfolding status-at status-in counted-as read-field number number-on hex-digit answer-line written digits digit status in-numbers
 number-read (Done value) = refl
 number-read BadLine = refl
 number-read BadKind = refl

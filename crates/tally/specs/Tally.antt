@@ -3,9 +3,14 @@ use Prim.Native.Nat.{ℕ, zero, suc, _+_, _-_, _*_, _/_, _^_}
 use mathlib.Core.Bool.{true, false}
 use mathlib.Core.Path.{_≡_, refl}
 use mathlib.Core.List.{List}
-use lib.ListN.{length, getD, set, replicate}
+use lib.ListN.{length, getD, drop, set, replicate}
 use lib.Dec.{eqb, ltb}
-use Rattle.rules.specs.Limits.{between, answer-bytes}
+use Rattle.rules.specs.declared.Found.{Found}
+use Rattle.rules.specs.declared.Found.the-variants.{One, Nothing}
+use Rattle.rules.specs.Field.{start-of}
+use Rattle.rules.specs.Limits.{answer-fields, answer-status, answer-bytes}
+use Rattle.rules.specs.Lowest.{answered}
+use Rattle.rules.specs.Hex.{read-field}
 use Rattle.tally.specs.declared.Tally.{Tally}
 
 abbrev pub tally : ℕ → List ℕ → ℕ → ℕ → Tally
@@ -18,13 +23,22 @@ none = tally 0 (replicate 10 0) 0 0
 unfoldable pub more : ℕ → ℕ
 more n = elim (ltb n (2 ^ 64 - 1)) [ true ↦ n + 1 | false ↦ n ]
 
--- a digit from 0 to 9, or 10
-unfoldable pub units : ℕ → ℕ
-units b = elim (between 0x30 0x39 b) [ true ↦ b - 0x30 | false ↦ 10 ]
+-- a number from 0 to 9, or 10 for any other and for none
+unfoldable pub counted-as : Found → ℕ
+counted-as (One s) = elim (ltb s 10) [ true ↦ s | false ↦ 10 ]
+counted-as Nothing = 10
 
--- the number of the answer that begins at a place, 00 to 09, by its two digits; 10 where they are something else
+-- the number of an answer, 00 to 09; 10 where it is another, or where no answer stands
+unfoldable pub status-in : List ℕ → ℕ
+status-in answer =
+    elim (ltb (length answer) (start-of answer-fields (suc answer-status))) [
+      | true ↦ 10
+      | false ↦ counted-as (answered (read-field answer-fields answer-status answer))
+    ]
+
+-- and of the one that begins at a place
 unfoldable pub status-at : List ℕ → ℕ → ℕ
-status-at report at = elim (eqb (getD report at 0) 0x30) [ true ↦ units (getD report (at + 1) 0) | false ↦ 10 ]
+status-at report at = status-in (drop at report)
 
 -- the counts by number, with one more of this one
 unfoldable pub counted : List ℕ → ℕ → List ℕ

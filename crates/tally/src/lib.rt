@@ -1,7 +1,9 @@
 // What a report says in sum: its answers counted by number, the first line that was not done, and the verdict.
+use rules::Found;
 use rules::limits::ANSWER_BYTES;
+use rules::limits::ANSWER_STATUS_END;
 ghost use mathlib.Core.Path.{_≡_};
-ghost use Rattle.tally.specs.Tally.{none, more, units, status-at, counted, with-answer, with-report, verdict};
+ghost use Rattle.tally.specs.Tally.{none, more, counted-as, status-at, counted, with-answer, with-report, verdict};
 
 pub struct Tally {
     pub lines: u64,
@@ -33,20 +35,20 @@ fn more(count: u64) -> u64
     count
 }
 
-// An answer's second digit, or 10 where it is none of 0 to 9.
-fn units(byte: u8) -> u8
-    ensures { λ r. ⌜ r ≡ units byte ⌝ }
+// A number from 0 to 9, or 10 for any other and for none.
+fn counted_as(found: Found) -> u8
+    ensures { λ r. ⌜ r ≡ counted-as found ⌝ }
 {
-    if byte < b'0' {
+    let Found::One(status) = found else {
         return 10;
+    };
+    if status < 10 {
+        return status as u8;
     }
-    if b'9' < byte {
-        return 10;
-    }
-    byte - b'0'
+    10
 }
 
-// The number of the answer that begins at `at`, 00 to 09, by its two digits; 10 where they are something else.
+// The number of the answer that begins at `at`, 00 to 09; 10 where it is another, or where no answer stands.
 pub fn status_at(report: &[u8], at: usize) -> u8
     ensures { λ r. ⌜ r ≡ status-at (now (report .entry)) at ⌝ }
 {
@@ -54,13 +56,10 @@ pub fn status_at(report: &[u8], at: usize) -> u8
     if length <= at {
         return 10;
     }
-    if report[at] != b'0' {
+    if length - at < ANSWER_STATUS_END {
         return 10;
     }
-    if length - at == 1 {
-        return 10;
-    }
-    units(report[at + 1])
+    counted_as(hex::number(&report[at..at + ANSWER_STATUS_END]))
 }
 
 fn counted(counts: [u64; 10], status: u8) -> [u64; 10]
