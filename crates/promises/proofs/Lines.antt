@@ -8,10 +8,8 @@ use mathlib.Core.Path.{_≡_, refl, sym, ap, ap₂, subst, _∙_}
 use mathlib.Core.Logic.{_≢_}
 use mathlib.Core.Option.{some, Option·none-ne-some}
 use mathlib.Core.List.{List, [], _∷_, _++_, append-assoc, append-nil}
-use mathlib.Core.Bool.{Bool, true, false}
 use lib.ListN.{length, set, replicate, length-append}
 use lib.Seq.{append-snoc, set-at}
-use lib.Dec.{eqb}
 use borrow.Author.Tests.{ne-eqb}
 use Rattle.rules.specs.declared.Session.{Session}
 use Rattle.rules.specs.declared.Answer.{Answer}
@@ -19,14 +17,14 @@ use Rattle.rules.specs.declared.Answer.the-variants.{BadLine, BadKind, NotZero}
 use Rattle.rules.specs.declared.Frame.{Frame}
 use Rattle.rules.specs.declared.Frame.the-variants.{Grant, Release, Read, Write, Refused}
 use Rattle.rules.specs.Field.{Field}
-use Rattle.rules.specs.Limits.{frame-digits, too-long, line-feed, answer-fields, answer-status, answer-kind, answer-value, kind-grant, kind-release, kind-read, kind-write}
+use Rattle.rules.specs.Limits.{frame-digits, too-long, line-feed, answer-fields, answer-status, answer-kind, answer-value}
 use Rattle.rules.specs.Answers.{in-numbers, status}
 use Rattle.rules.specs.Hex.{hex-digit, digit, digits, digits-zero, digits-suc, written, written-nil, written-cons}
-use Rattle.rules.specs.Frames.{fields, with-zero, frame, asked, frame-of-line, answer-line}
+use Rattle.rules.specs.Frames.{fields, frame, asked, frame-of-line, answer-line}
 use Rattle.rules.specs.Feed.{no-bytes, lengthened}
 use Rattle.rules.proofs.Tests.{by-order, if-false}
 use Rattle.rules.proofs.Hex.{hex-digit-digit, no-line-feed, read-back}
-use Rattle.rules.proofs.Frames.{line-length, by-fields}
+use Rattle.rules.proofs.Frames.{line-length, by-zero, by-kind, by-fields}
 use Rattle.rules.proofs.Feed.{lengthened-short, lengthened-long}
 use Rattle.promises.specs.History.{lines-on, lines, status-of, value-of, kind-of}
 
@@ -161,21 +159,18 @@ spells-asks {session} {bytes} spells =
 
 -- ---- what a line asks
 
--- a choice has what both of its ways have
-either : (P : Frame → Type 0) (t : Bool) {a b : Frame} → P a → P b → P (elim t as (λ _. Frame) [ true ↦ a | false ↦ b ])
-either P true p q = p
-either P false p q = q
-
 -- by what a line asks, whatever its bytes: its numbers have 32 bits
 module _ (P : Frame → Type 0) (bad-line : P (Refused BadLine)) (no-kind : P (Refused BadKind)) (not-zero : P (Refused NotZero))
     (grants : (s : ℕ) → s < 16 ^ 8 → P (Grant s)) (releases : (a : ℕ) → a < 16 ^ 8 → P (Release a))
     (reads : (a n : ℕ) → a < 16 ^ 8 → n < 16 ^ 8 → P (Read a n)) (writes : (a n : ℕ) → a < 16 ^ 8 → n < 16 ^ 8 → P (Write a n)) where
   by-numbers : (kind A B : ℕ) → A < 16 ^ 8 → B < 16 ^ 8 → P (frame (fields kind A B))
-  unfolding frame with-zero
   by-numbers kind A B fits fits′ =
-      either P (eqb kind kind-grant) (either P (eqb B 0) (grants A fits) not-zero)
-      (either P (eqb kind kind-release) (either P (eqb B 0) (releases A fits) not-zero)
-      (either P (eqb kind kind-read) (reads A B fits fits′) (either P (eqb kind kind-write) (writes A B fits fits′) no-kind)))
+      by-kind kind A B P
+      (λ e. by-zero B (Grant A) P (grants A fits) (λ above. not-zero))
+      (λ e. by-zero B (Release A) P (releases A fits) (λ above. not-zero))
+      (λ e. reads A B fits fits′)
+      (λ e. writes A B fits fits′)
+      (λ a b c d. no-kind)
 
   pub by-line : (n : ℕ) (line : List ℕ) → P (frame-of-line n line)
   unfolding frame-of-line asked

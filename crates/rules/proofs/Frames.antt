@@ -61,6 +61,45 @@ pub with-zero-not : (B : ℕ) (frame : Frame) → B ≢ 0 → with-zero B frame 
 unfolding with-zero
 with-zero-not B frame above = if-false _ _ (ne-eqb B 0 above)
 
+-- by B, and by the kind: what each of the kinds asks, and none of them
+pub by-zero {ℓ} : (B : ℕ) (frame : Frame) (P : Frame → Type ℓ) → P frame → (B ≢ 0 → P (Refused NotZero))
+    → P (with-zero B frame)
+by-zero B frame P zeroed not-zero =
+    elim (ℕ-discrete B 0) [
+      | yes e ↦ subst (λ c. P (with-zero c frame)) (sym e) (subst P (sym (with-zero-is frame)) zeroed)
+      | no above ↦ subst P (sym (with-zero-not B frame above)) (not-zero above)
+    ]
+
+pub by-kind {ℓ} : (kind A B : ℕ) (P : Frame → Type ℓ)
+    → (kind ≡ kind-grant → P (with-zero B (Grant A)))
+    → (kind ≡ kind-release → P (with-zero B (Release A)))
+    → (kind ≡ kind-read → P (Read A B))
+    → (kind ≡ kind-write → P (Write A B))
+    → (kind ≢ kind-grant → kind ≢ kind-release → kind ≢ kind-read → kind ≢ kind-write → P (Refused BadKind))
+    → P (frame (fields kind A B))
+by-kind kind A B P grants releases reads writes other =
+    elim (ℕ-discrete kind kind-grant) [
+      | yes e ↦ is e (frame-grant A B) (grants e)
+      | no not-grant ↦
+          elim (ℕ-discrete kind kind-release) [
+            | yes e ↦ is e (frame-release A B) (releases e)
+            | no not-release ↦
+                elim (ℕ-discrete kind kind-read) [
+                  | yes e ↦ is e (frame-read A B) (reads e)
+                  | no not-read ↦
+                      elim (ℕ-discrete kind kind-write) [
+                        | yes e ↦ is e (frame-write A B) (writes e)
+                        | no not-write ↦
+                            subst P (sym (frame-other kind A B not-grant not-release not-read not-write))
+                            (other not-grant not-release not-read not-write)
+                      ]
+                ]
+          ]
+    ]
+  where
+    is : {k : ℕ} {asked : Frame} → kind ≡ k → frame (fields k A B) ≡ asked → P asked → P (frame (fields kind A B))
+    is e asks p = subst (λ k. P (frame (fields k A B))) (sym e) (subst P (sym asks) p)
+
 -- ---- a line
 
 -- a line of fields asks what they ask, and any other is refused 01

@@ -1,7 +1,6 @@
 -- When the watcher says no, and only when: each number of the table the other way round. That a number is given where its row says
 -- so is among the laws of its section; here, that it is given nowhere else. Assumes nothing.
 use Prim.Native.Nat.{ℕ, _≤_, _<_}
-use native.Mathlib.Decide.{ℕ-discrete}
 use native.Mathlib.Omega.{arith}
 use mathlib.Core.Path.{_≡_, refl, sym, ap, subst, _∙_}
 use mathlib.Core.Logic.{_≢_}
@@ -19,7 +18,7 @@ use Rattle.rules.specs.Answers.{in-numbers, status}
 use Rattle.rules.specs.Shadow.{kind, first-bad, FirstBad}
 use Rattle.rules.specs.Grant.{counted, granules, place, empty-row, grant-at, grant}
 use Rattle.rules.specs.Release.{row-at, release-row, release}
-use Rattle.rules.specs.Frames.{fields, with-zero, frame}
+use Rattle.rules.specs.Frames.{fields, frame}
 use Rattle.rules.specs.Watcher.{of-verdict, access, act, watcher, pool-of}
 use Rattle.rules.specs.Calls.{table-length, open-with, within-limits, fits-lent, grant-call, release-call, access-call, unfinished-call, feed}
 use Rattle.rules.specs.declared.Map.{Map}
@@ -28,7 +27,7 @@ use Rattle.rules.proofs.Tests.{by-found, by-order, by-test}
 use Rattle.rules.proofs.Shadow.{first-bad-some, verdict-none, verdict-some}
 use Rattle.rules.proofs.Grant.{by-grant}
 use Rattle.rules.proofs.Release.{by-release}
-use Rattle.rules.proofs.Frames.{frame-grant, frame-release, frame-read, frame-write, frame-other, with-zero-is, with-zero-not}
+use Rattle.rules.proofs.Frames.{by-zero, by-kind}
 use Rattle.rules.proofs.Calls.{by-open, grant-as-frame, release-as-frame, access-as-frame, unfinished-done, feed-done}
 use Rattle.rules.proofs.Maps.{in-low-mem, in-low-shadow, in-gap, in-high-shadow, in-high-mem, beyond, map-call-at}
 
@@ -105,33 +104,16 @@ refusal (Refused answer) = status answer
 -- what a frame is, by its kind and B
 by-frame : (kind A B : ℕ) (P : Frame → Type 0)
     → ((k : Frame) → refusal k ≡ 0 → P k)
-    → ((kind ≡ kind-grant → ⊥) → (kind ≡ kind-release → ⊥) → (kind ≡ kind-read → ⊥) → (kind ≡ kind-write → ⊥) → P (Refused BadKind))
+    → (kind ≢ kind-grant → kind ≢ kind-release → kind ≢ kind-read → kind ≢ kind-write → P (Refused BadKind))
     → (B ≢ 0 → kind-grant ≤ kind → kind ≤ kind-release → P (Refused NotZero)) → P (frame (fields kind A B))
 unfolding refusal
 by-frame kind A B P asked other not-zero =
-    elim (ℕ-discrete kind kind-grant) [
-      | yes e ↦ subst (λ k. P (frame (fields k A B))) (sym e) (subst P (sym (frame-grant A B)) (zeroed (Grant A) refl (omega arith) (omega arith)))
-      | no not-grant ↦
-          elim (ℕ-discrete kind kind-release) [
-            | yes e ↦ subst (λ k. P (frame (fields k A B))) (sym e) (subst P (sym (frame-release A B)) (zeroed (Release A) refl (omega arith) (omega arith)))
-            | no not-release ↦
-                elim (ℕ-discrete kind kind-read) [
-                  | yes e ↦ subst (λ k. P (frame (fields k A B))) (sym e) (subst P (sym (frame-read A B)) (asked (Read A B) refl))
-                  | no not-read ↦
-                      elim (ℕ-discrete kind kind-write) [
-                        | yes e ↦ subst (λ k. P (frame (fields k A B))) (sym e) (subst P (sym (frame-write A B)) (asked (Write A B) refl))
-                        | no not-write ↦ subst P (sym (frame-other kind A B not-grant not-release not-read not-write)) (other not-grant not-release not-read not-write)
-                      ]
-                ]
-          ]
-    ]
-  where
-    zeroed : (k : Frame) → refusal k ≡ 0 → kind-grant ≤ kind → kind ≤ kind-release → P (with-zero B k)
-    zeroed k fine from small =
-        elim (ℕ-discrete B 0) [
-          | yes e ↦ subst (λ c. P (with-zero c k)) (sym e) (subst P (sym (with-zero-is k)) (asked k fine))
-          | no above ↦ subst P (sym (with-zero-not B k above)) (not-zero above from small)
-        ]
+    by-kind kind A B P
+    (λ e. by-zero B (Grant A) P (asked (Grant A) refl) (λ above. not-zero above (omega arith) (omega arith)))
+    (λ e. by-zero B (Release A) P (asked (Release A) refl) (λ above. not-zero above (omega arith) (omega arith)))
+    (λ e. asked (Read A B) refl)
+    (λ e. asked (Write A B) refl)
+    other
 
 -- 18 hex digits are never refused 01
 pub only-01 : (kind A B : ℕ) → refusal (frame (fields kind A B)) ≢ 1
