@@ -34,8 +34,8 @@ unfolding rows
 rows-most l = omega (arith, l .most)
 
 -- what n rows weigh, and one more, fits 64 bits
-pub weights-fit : {R : ℕ} {table : List ℕ} (n i w v : ℕ) → TableLent R table → n ≤ rows table → ((j : ℕ) → size table j < 2 ^ 32)
-    → w ≤ n * 2 ^ 33 → v ≡ weight R (size table i) → w + v < 2 ^ 64
+pub weights-fit : {R : ℕ} {table : List ℕ} (n i w v : ℕ) → TableLent R table → n ≤ rows table
+    → ((j : ℕ) → size table j < 2 ^ 32) → w ≤ n * 2 ^ 33 → v ≡ weight R (size table i) → w + v < 2 ^ 64
 weights-fit {R} {table} n i w v lent in-rows fits so-far one-more =
     omega (arith, weight-most R (size table i) (lent .near) (fits i), rows-most lent)
 

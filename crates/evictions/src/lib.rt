@@ -1,4 +1,5 @@
-// Evictions: every turn lessened, the oldest row of the quarantine evicted, and evictions until the rest weighs no more than Q.
+// Evictions: every turn lessened, the oldest row of the quarantine evicted, and evictions until the rest weighs no more
+// than Q.
 use blocks::rows;
 use rules::Found;
 use rules::limits::REDZONE_BYTE;
@@ -43,7 +44,9 @@ pub fn lessen(table: &mut [u32]) -> Found
 // The row leaves: its granules fa, itself emptied, every other turn above 0 lessened by one.
 pub fn evict(shadow: &mut [u8], table: &mut [u32], row: usize) -> Found
     requires { ⌜ row < rows (now table) ⌝ }
-    ensures { λ r. ⌜ EvictedRow (pool (now (shadow .entry)) (now (table .entry))) row (pool (now (shadow .exit)) (now (table .exit))) r ⌝ }
+    ensures { λ r.
+        ⌜ EvictedRow (pool (now (shadow .entry)) (now (table .entry))) row
+        (pool (now (shadow .exit)) (now (table .exit))) r ⌝ }
 {
     let start = rows::number(table, row, START_COLUMN);
     let size = rows::number(table, row, SIZE_COLUMN);
@@ -61,7 +64,9 @@ pub fn settle(
     held: Held,
 ) -> u32
     requires { ⌜ Weighed redzone (now table) held ⌝ }
-    ensures { λ r. ⌜ settled (now (shadow .exit)) (now (table .exit)) r ≡ settle redzone quarantine (pool (now (shadow .entry)) (now (table .entry))) ⌝ }
+    ensures { λ r.
+        ⌜ settled (now (shadow .exit)) (now (table .exit)) r
+        ≡ settle redzone quarantine (pool (now (shadow .entry)) (now (table .entry))) ⌝ }
 {
     let mut weight = held.weight;
     let mut oldest = held.oldest;

@@ -4,6 +4,7 @@ use crate::fields;
 use cases::print;
 use cases::show;
 use rules::Session;
+use rules::limits::ROW_NUMBERS;
 
 fn session_of(granules: usize) -> Session {
     Session {
@@ -18,7 +19,7 @@ fn session_of(granules: usize) -> Session {
 
 fn access(words: &[u8], shadow: &[u8], address: u32, length: u32) {
     let session = session_of(shadow.len());
-    let table = [0u32; 4];
+    let table = [0u32; ROW_NUMBERS];
     print::answer(
         words,
         watcher::access(session, shadow, &table, address, length),

@@ -3,6 +3,8 @@ use crate::Section;
 use crate::fields;
 use cases::print;
 use cases::show;
+use cases::tables::NUMBERS;
+use cases::tables::ROWS;
 use rules::Session;
 use rules::limits::ROW_NUMBERS;
 
@@ -47,10 +49,10 @@ fn fed(
     room: usize,
 ) {
     let mut shadow = [0x7e; 16];
-    let mut table = [7u32; 16];
+    let mut table = [7u32; NUMBERS];
     let mut report = [b'.'; 80];
     if granules <= 16 {
-        if rows <= 4 {
+        if rows <= ROWS {
             if room <= 80 {
                 let numbers = ROW_NUMBERS * rows;
                 open_and_feed(

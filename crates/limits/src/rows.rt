@@ -2,18 +2,25 @@
 use crate::feeds;
 use cases::print;
 use rules::Session;
+use rules::limits::MOST_ROWS;
+use rules::limits::ROW_NUMBERS;
+use rules::limits::STATE_COLUMN;
 
-// Of 1,024 rows, 1,023 are live and the last one is empty, since number 4,094, its state, is 0. The block goes to address 10.
+const NUMBERS: usize = ROW_NUMBERS * MOST_ROWS;
+
+const LAST_STATE: usize = NUMBERS - ROW_NUMBERS + STATE_COLUMN;
+
+// Of 1,024 rows, 1,023 are live and the last one is empty, since its state is 0. The block goes to address 10.
 fn most_rows() {
     let mut shadow = [0x7e; 16];
-    let mut table = [7u32; 4096];
+    let mut table = [7u32; NUMBERS];
     let opened = watcher::open(&mut shadow, &mut table, 2, 16);
-    let mut live = [1u32; 4096];
-    live[4094] = 0;
+    let mut live = [1u32; NUMBERS];
+    live[LAST_STATE] = 0;
     grant_and_release(opened.session, &mut shadow, &mut live);
 }
 
-fn grant_and_release(session: Session, shadow: &mut [u8; 16], table: &mut [u32; 4096]) {
+fn grant_and_release(session: Session, shadow: &mut [u8; 16], table: &mut [u32; NUMBERS]) {
     print::begin(b"1,024 rows, the last one empty");
     print::answer(b"grant ", watcher::grant(session, shadow, table, 1));
     print::answer(b", grant ", watcher::grant(session, shadow, table, 1));

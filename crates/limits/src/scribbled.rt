@@ -3,6 +3,8 @@ use crate::Section;
 use crate::feeds;
 use crate::fields;
 use cases::show;
+use cases::tables::NUMBERS;
+use cases::tables::ROWS;
 use cases::tables::table_of;
 use rules::Session;
 
@@ -10,7 +12,7 @@ fn feed(
     words: &[u8],
     session: Session,
     shadow: &mut [u8; 8],
-    table: &mut [u32; 16],
+    table: &mut [u32; NUMBERS],
     piece: &[u8],
     room: usize,
 ) {
@@ -25,7 +27,7 @@ fn feed(
 fn session_with(quarantine: u32) -> Session {
     Session {
         granules: 8,
-        rows: 4,
+        rows: ROWS,
         redzone: 2,
         quarantine,
         unfinished: 0,

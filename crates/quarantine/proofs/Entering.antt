@@ -56,7 +56,8 @@ module _ (pool : Pool) (i : ℕ) (below : i < rows (pool .table)) (not-held : is
   against k e =
       let o : Oldest (pool .table) (rows (pool .table)) k = oldest-some (pool .table) (rows (pool .table)) k e in
       let apart : k ≢ i = λ same. true≢false (sym (o .held) ∙ ap (is-quarantined (pool .table)) same ∙ not-held) in
-      let kept : turn after k ≡ turn (pool .table) k = quarantine-row-other pool i below turn-column k (omega arith) apart in
+      let kept : turn after k ≡ turn (pool .table) k =
+      quarantine-row-other pool i below turn-column k (omega arith) apart in
       by-order (turn after i) (turn after k)
       (λ less.
       leaves-lower after i k less

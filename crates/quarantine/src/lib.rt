@@ -49,7 +49,9 @@ pub fn quarantine_row(
     seen: Seen,
 ) -> Held
     requires { ⌜ Entering redzone (now table) row seen ⌝ }
-    ensures { λ r. ⌜ Entered redzone (pool (now (shadow .entry)) (now (table .entry))) row (pool (now (shadow .exit)) (now (table .exit))) r ⌝ }
+    ensures { λ r.
+        ⌜ Entered redzone (pool (now (shadow .entry)) (now (table .entry))) row
+        (pool (now (shadow .exit)) (now (table .exit))) r ⌝ }
 {
     let start = rows::number(table, row, START_COLUMN);
     let size = rows::number(table, row, SIZE_COLUMN);

@@ -239,4 +239,5 @@ grant-keeps R shadow table s j held =
     let l : Lowest (is-empty table) (rows table) 0 i = empty-row-some table i row in
     let new : Row = granted-row p (counted s) in
     let other : j ≢ i = λ same. held (ap (state table) same ∙ eqb-true (state table i) empty (l .passes)) in
-    same-row (put-row table i new) table j (λ k in-row. column-put-row-other table i new (below-all l) k j in-row other))
+    same-row (put-row table i new) table j
+    (λ k in-row. column-put-row-other table i new (below-all l) k j in-row other))

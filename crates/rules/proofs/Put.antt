@@ -6,7 +6,8 @@ use native.Mathlib.Omega.{arith}
 use mathlib.Core.Path.{_≡_, refl, sym, ap, subst, _∙_}
 use mathlib.Core.List.{List, [], _∷_, _++_, append-assoc, append-nil}
 use lib.ListN.{length, getD, take, drop, replicate, set, length-append, length-drop, length-replicate, length-set, take-append-drop, getD-replicate, List·getD-append}
-use lib.Seq.{length-take-le, take-suc, take-all, getD-append-add, getD-take, getD-drop, take-append-seam, drop-append-add, drop-drop, drop-length, sets, sets-eq}
+use lib.Seq.{length-take-le, take-suc, take-all, getD-append-add, getD-take, getD-drop, take-append-seam}
+use lib.Seq.{drop-append-add, drop-drop, drop-length, sets, sets-eq}
 use borrow.Author.Fill.{fill-none, fill-more}
 use Rattle.rules.specs.Put.{put, fill}
 use Rattle.rules.proofs.Tests.{by-order}
@@ -32,7 +33,8 @@ put-sets whole at part room = sym (append-assoc (take at whole) part (drop (at +
 pub put-start : (whole : List ℕ) (at : ℕ) (part : List ℕ) → whole ≡ put whole at (take 0 part)
 put-start whole at part = sym (put-nothing whole at)
 
-store-last : (part whole : List ℕ) (at v : ℕ) → sets whole at (part ++ (v ∷ [])) ≡ set (sets whole at part) (at + length part) v
+store-last : (part whole : List ℕ) (at v : ℕ)
+    → sets whole at (part ++ (v ∷ [])) ≡ set (sets whole at part) (at + length part) v
 store-last [] whole at v = ap (λ n. set whole n v) (sym (add-zero at))
 store-last (w ∷ part) whole at v =
     let further : suc at + length part ≡ at + length (w ∷ part) = omega arith in
@@ -51,7 +53,8 @@ put-one-more whole at part k room below =
     ∙ ap (put whole at) (sym (take-suc part k 0 below))
     ∙ ap (λ n. put whole at (take n part)) (sym (add-one k))
 
-pub put-all : (whole : List ℕ) (at : ℕ) (part : List ℕ) (n : ℕ) → length part ≤ n → put whole at (take n part) ≡ put whole at part
+pub put-all : (whole : List ℕ) (at : ℕ) (part : List ℕ) (n : ℕ) → length part ≤ n
+    → put whole at (take n part) ≡ put whole at part
 put-all whole at part n all = ap (put whole at) (take-all n part all)
 
 -- a part that was lent, once it is back

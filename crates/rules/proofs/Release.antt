@@ -24,8 +24,8 @@ use Rattle.rules.specs.Release.{starts-at, row-at, if-quarantined, in-qu
 use Rattle.rules.proofs.Tests.{by-found, by-order, by-test, if-false, if-true}
 use Rattle.rules.proofs.Lowest.{Lowest, lowest-some, lowest-none, below-all, total-change, le-total, total-above, total-most}
 use Rattle.rules.proofs.Put.{length-fill, fill-in, fill-before, fill-after}
-use Rattle.rules.proofs.Table.{length-set-number, column-set-number, column-set-number-other, column-set-number-elsewhere}
-use Rattle.rules.proofs.Table.{rows-same, length-put-row, column-put-row, column-put-row-other, zero-row-zero}
+use Rattle.rules.proofs.Table.{length-set-number, column-set-number, column-set-number-other}
+use Rattle.rules.proofs.Table.{column-set-number-elsewhere, rows-same, length-put-row, column-put-row, column-put-row-other, zero-row-zero}
 use Rattle.rules.proofs.Table.{length-lessened, column-lessened, turn-lessened}
 use Rattle.rules.proofs.Grant.{SameLengths}
 
@@ -451,7 +451,8 @@ module _ (pool : Pool) (i : ℕ) (below : i < rows (pool .table)) where
   pub quarantine-row-turn : turn (quarantine-row pool i .table) i ≡ own-turn
   unfolding quarantine-row held-table
   quarantine-row-turn =
-      column-set-number turn-column held-table i own-turn (omega arith) (omega (arith, rows-same held-table (pool .table) held-length))
+      let as-many : rows held-table ≡ rows (pool .table) = rows-same held-table (pool .table) held-length in
+      column-set-number turn-column held-table i own-turn (omega arith) (omega arith)
 
   -- its other numbers stand as they did
   pub quarantine-row-own : (k : ℕ) → k < row-numbers → k ≢ state-column → k ≢ turn-column

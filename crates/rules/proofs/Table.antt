@@ -1,5 +1,5 @@
--- The laws of the table: a number that is set and a row that is put are read back, every other column and every other row stands
--- as it did, and lessening touches turns alone. Each holds for whatever columns there are. Assumes nothing.
+-- The laws of the table: a number that is set and a row that is put are read back, every other column and every other row
+-- stands as it did, and lessening touches turns alone. Each holds for whatever columns there are. Assumes nothing.
 use Prim.Native.Nat.{ℕ, zero, suc, _+_, _-_, _*_, _/_, _≤_, _<_}
 use native.Mathlib.Omega.{arith}
 use mathlib.Core.Path.{_≡_, refl, sym, ap, _∙_}
@@ -9,7 +9,8 @@ use lib.ListN.{length, getD, replicate, length-set}
 use lib.Seq.{getD-set-same, getD-set-other}
 use Rattle.rules.specs.declared.Row.{Row}
 use Rattle.rules.specs.Limits.{start-column, size-column, state-column, turn-column, row-numbers}
-use Rattle.rules.specs.Table.{rows, column, turn, set-number, numbers, row-of, zero-row, put-row, lessened, lessened-zero, lessened-suc}
+use Rattle.rules.specs.Table.{rows, column, turn, set-number, numbers, row-of, zero-row, put-row}
+use Rattle.rules.specs.Table.{lessened, lessened-zero, lessened-suc}
 use Rattle.rules.proofs.Tests.{by-order}
 use Rattle.rules.proofs.Put.{length-put, put-in, put-before, put-after}
 
@@ -113,7 +114,8 @@ pub same-row : (table other : List ℕ) (i : ℕ) → ((k : ℕ) → k < row-num
 same-row table other i same = same-by (λ k. column k table i) (λ k. column k other i) same
 
 -- of zeros
-pub row-of-zeros : (table : List ℕ) (i : ℕ) → ((k : ℕ) → k < row-numbers → column k table i ≡ 0) → row-of table i ≡ zero-row
+pub row-of-zeros : (table : List ℕ) (i : ℕ) → ((k : ℕ) → k < row-numbers → column k table i ≡ 0)
+    → row-of table i ≡ zero-row
 row-of-zeros table i zeros = same-by (λ k. column k table i) (λ _. 0) zeros
 
 -- the one that was put
@@ -131,19 +133,26 @@ length-lessened table (suc n) =
     ∙ length-lessened table n
 
 -- no number but a turn is touched
-pub column-lessened : (table : List ℕ) (n k i : ℕ) → k < row-numbers → k ≢ turn-column → column k (lessened table n) i ≡ column k table i
+pub column-lessened : (table : List ℕ) (n k i : ℕ) → k < row-numbers → k ≢ turn-column
+    → column k (lessened table n) i ≡ column k table i
 column-lessened table zero k i in-row other = ap (λ t. column k t i) (lessened-zero table)
 column-lessened table (suc n) k i in-row other =
     ap (λ t. column k t i) (lessened-suc table n)
     ∙ column-set-number-other turn-column (lessened table n) n (turn table n - 1) k i (omega arith) in-row other
     ∙ column-lessened table n k i in-row other
 
+-- the turn of row n alone is set
+turn-set-elsewhere : (table : List ℕ) (n i : ℕ) → i ≢ n
+    → turn (set-number turn-column (lessened table n) n (turn table n - 1)) i ≡ turn (lessened table n) i
+turn-set-elsewhere table n i other =
+    column-set-number-elsewhere turn-column (lessened table n) n (turn table n - 1) turn-column i (omega arith) (omega arith) other
+
 -- the turns from row n on are as they were
 pub turn-kept : (table : List ℕ) (n i : ℕ) → n ≤ i → turn (lessened table n) i ≡ turn table i
 turn-kept table zero i from = ap (λ t. turn t i) (lessened-zero table)
 turn-kept table (suc n) i from =
     ap (λ t. turn t i) (lessened-suc table n)
-    ∙ column-set-number-elsewhere turn-column (lessened table n) n (turn table n - 1) turn-column i (omega arith) (omega arith) (omega arith)
+    ∙ turn-set-elsewhere table n i (omega arith)
     ∙ turn-kept table n i (omega arith)
 
 -- the turns below row n are lessened
@@ -154,7 +163,7 @@ turn-lessened table (suc n) i in-rows below =
     ap (λ t. turn t i) (lessened-suc table n)
     ∙ by-order i n
     (λ less.
-    column-set-number-elsewhere turn-column (lessened table n) n (turn table n - 1) turn-column i (omega arith) (omega arith) (omega arith)
+    turn-set-elsewhere table n i (omega arith)
     ∙ turn-lessened table n i (omega arith) less)
     (λ more.
     let last : i ≡ n = omega arith in

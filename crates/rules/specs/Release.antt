@@ -100,7 +100,8 @@ settle-in (suc left) R Q pool =
 unfoldable pub settle : ℕ → ℕ → Pool → Settled
 settle R Q pool = settle-in (in-quarantine (pool .table)) R Q pool
 
--- row i becomes quarantined, its granules fd, its turn the number of quarantined rows, itself counted; its other numbers stay
+-- row i becomes quarantined, its granules fd, its turn the number of quarantined rows, itself counted; its other numbers
+-- stay
 unfoldable pub quarantine-row : Pool → ℕ → Pool
 quarantine-row pool i = record {
   shadow = paint-row pool i released-byte;

@@ -1,4 +1,5 @@
--- The table: rows of numbers, start granule, size in bytes, state and turn. A table is any list of numbers, scribbled ones too.
+-- The table: rows of numbers, start granule, size in bytes, state and turn. A table is any list of numbers, scribbled ones
+-- too.
 use Prim.Native.Nat.{ℕ, zero, suc, _+_, _-_, _*_, _/_}
 use mathlib.Core.Path.{_≡_, refl}
 use mathlib.Core.Bool.{Bool}
@@ -6,7 +7,8 @@ use mathlib.Core.List.{List, [], _∷_}
 use lib.ListN.{length, getD, set}
 use lib.Dec.{eqb}
 use Rattle.rules.specs.declared.Row.{Row}
-use Rattle.rules.specs.Limits.{start-column, size-column, state-column, turn-column, row-numbers, empty, quarantined}
+use Rattle.rules.specs.Limits.{start-column, size-column, state-column, turn-column, row-numbers}
+use Rattle.rules.specs.Limits.{empty, quarantined}
 use Rattle.rules.specs.Put.{put}
 
 -- how many rows a table has

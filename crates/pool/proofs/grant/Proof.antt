@@ -139,11 +139,15 @@ put-row-requires c κs =
     let found = c .before .before .before .before .before .before .before in
     below-all (empty-row-some (now (begin found .args .table)) (Row (Asked found) .row .given .0 .0) (row-is (Row (Asked found))))
 
+-- the place that the stored row starts at
+abbrev place-of : tie.After-slice-known4 → tie.After-place2
+place-of c = c .before .before .before .before .before .before .before .before .before .before
+
 mul-t22 : tie.Need-mul-t22
-mul-t22 c = record { fits = omega (arith, address-fits (c .before .before .before .before .before .before .before .before .before .before)) }
+mul-t22 c = record { fits = omega (arith, address-fits (place-of c)) }
 
 cast-t21 : tie.Need-cast-t21
-cast-t21 c = record { fits = address-fits (c .before .before .before .before .before .before .before .before .before .before) }
+cast-t21 c = record { fits = address-fits (place-of c) }
 
 same-length-4 : tie.Need-same-length-4
 same-length-4 c = search needs

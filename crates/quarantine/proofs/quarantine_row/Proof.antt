@@ -1,5 +1,5 @@
--- `quarantine::quarantine_row` meets its contract: the row is painted, its state and turn are set, its weight is added, and it is set
--- against the oldest before it. Assumes nothing.
+-- `quarantine::quarantine_row` meets its contract: the row is painted, its state and turn are set, its weight is added, and it
+-- is set against the oldest before it. Assumes nothing.
 use Prim.Native.Nat.{ℕ, _+_, _*_, _^_, _≤_, _<_}
 use native.Mathlib.Omega.{arith}
 use mathlib.Core.Path.{_≡_, sym, ap, ap₂, _∙_}
@@ -52,7 +52,8 @@ add-weight c =
     let start = known .before .before in
     let R = start .args .redzone in
     let table = now (start .args .table) in
-    let fits : (j : ℕ) → size table j < 2 ^ 32 = λ j. omega (arith, known .slice-known2 .given (row-numbers * j + size-column)) in
+    let fits : (j : ℕ) → size table j < 2 ^ 32 =
+    λ j. omega (arith, known .slice-known2 .given (row-numbers * j + size-column)) in
     let so-far : start .args .seen .weight ≤ rows table * 2 ^ 33 = omega (arith, start .pre .weight-is, weights-most R table (start .pre .lent .near) fits) in
     let one-more = weighed .weight-of .ensures ∙ ap (weight R) (sized .number2 .ensures) in
     record { fits = weights-fit (rows table) (start .args .row) (start .args .seen .weight) (weighed .weight-of .result) (start .pre .lent) (omega arith) fits so-far one-more }
@@ -68,12 +69,14 @@ set-number-requires-2 c κs =
     let stated = c .before .before .before in
     let painted = stated .before .before .before .before in
     let start = painted .before .before .before .before .before .before .before .before .before .before .before in
+    let stored = stated .set-number in
     record {
-      below = below-same (now (start .args .table)) (stated .set-number .last .0) (start .args .row) (stated .set-number .kept .0) (start .pre .below);
+      below = below-same (now (start .args .table)) (stored .last .0) (start .args .row) (stored .kept .0) (start .pre .below);
       in-row = omega arith;
     }
 
--- from the end of the two stores back: the first of them, the painting, the weighing, the size and the start read, the beginning
+-- from the end of the two stores back: the first of them, the painting, the weighing, the size read, the start read, the
+-- beginning
 abbrev stated : tie.After-set-number2 → tie.After-set-number
 stated c = c .before .before .before .before
 
@@ -109,8 +112,8 @@ first-to-leave-requires c κs =
       below = below-same table after (start turned .args .row) (as-long turned) (pre .below);
       other-below =
           λ k is.
-          below-same table after k (as-long turned)
-          (oldest-some table (rows table) k (answered-one (oldest table (rows table)) k (sym is ∙ pre .oldest-is)) .below);
+          let first = answered-one (oldest table (rows table)) k (sym is ∙ pre .oldest-is) in
+          below-same table after k (as-long turned) (oldest-some table (rows table) k first .below);
     }
 
 same-length : tie.Need-same-length
@@ -126,9 +129,10 @@ set-row c =
     let table = now (start c .args .table) in
     let row = start c .args .row in
     let seen = start c .args .seen in
+    let held = set-number state-column table row quarantined in
     c .set-number2 .ensures
     ∙ ap (λ t. set-number turn-column t row (seen .count + 1)) (stated c .set-number .ensures)
-    ∙ ap (λ n. set-number turn-column (set-number state-column table row quarantined) row (n + 1)) (start c .pre .count-is)
+    ∙ ap (λ n. set-number turn-column held row (n + 1)) (start c .pre .count-is)
 
 returns : tie.Need-returns
 unfolding paint-row quarantine-row
@@ -139,16 +143,19 @@ returns c =
     let row = start turned .args .row in
     let R = start turned .args .redzone in
     let pre = start turned .pre in
-    let not-held : is-quarantined table row ≡ false = ne-eqb (state table row) quarantined (omega (arith, pre .is-live)) in
+    let not-held : is-quarantined table row ≡ false =
+    ne-eqb (state table row) quarantined (omega (arith, pre .is-live)) in
+    let starts = started turned .number .ensures in
+    let sizes = sized turned .number2 .ensures in
     let painted-over =
     painted turned .row .ensures
-    ∙ ap₂ (λ from size. fill shadow from (granules size) released-byte) (started turned .number .ensures) (sized turned .number2 .ensures) in
+    ∙ ap₂ (λ from size. fill shadow from (granules size) released-byte) starts sizes in
     record {
       pool-after = ap₂ pool painted-over (set-row turned);
       weighed = record {
         lent = record { most = omega (arith, as-long turned, pre .lent .most); near = pre .lent .near };
         weight-is =
-            ap₂ (λ a b. a + b) (pre .weight-is) (weighed turned .weight-of .ensures ∙ ap (weight R) (sized turned .number2 .ensures))
+            ap₂ (λ a b. a + b) (pre .weight-is) (weighed turned .weight-of .ensures ∙ ap (weight R) sizes)
             ∙ sym (ap (weights R) (set-row turned) ∙ quarantine-row-weights (whole turned) row (pre .below) R not-held);
         oldest-is =
             c .first-to-leave .ensures

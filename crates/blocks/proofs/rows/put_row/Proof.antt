@@ -1,5 +1,5 @@
--- `blocks::rows::put_row` meets its contract. The invariant: the first k numbers of the new row are stored, and all else is as it
--- was. The measure is what is left of the row's numbers. Assumes nothing.
+-- `blocks::rows::put_row` meets its contract. The invariant: the first k numbers of the new row are stored, and all else is
+-- as it was. The measure is what is left of the row's numbers. Assumes nothing.
 use Prim.Native.Nat.{_+_, _-_, _*_, _≤_}
 use native.Mathlib.Omega.{arith}
 use mathlib.Core.Path.{_≡_, ap, _∙_}
@@ -40,8 +40,9 @@ set-number-requires : tie.Need-set-number-requires Inv-loop μ-loop
 set-number-requires c κs =
     let loop = c .before .before in
     let start = loop .before .before .before in
+    let table = now (start .args .table) in
     record {
-      below = below-same (now (start .args .table)) (loop .loop .table) (start .args .row) (loop .loop .inv .1) (start .pre);
+      below = below-same table (loop .loop .table) (start .args .row) (loop .loop .inv .1) (start .pre);
       in-row = omega arith;
     }
 

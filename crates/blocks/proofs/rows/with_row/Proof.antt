@@ -68,7 +68,8 @@ add-weight c =
     let R = start .args .redzone in
     let table = now (start .args .table) in
     let row = start .args .row in
-    let fits : (j : ℕ) → size table j < 2 ^ 32 = λ j. omega (arith, known .shared-slice-known .given (row-numbers * j + size-column)) in
+    let fits : (j : ℕ) → size table j < 2 ^ 32 =
+    λ j. omega (arith, known .shared-slice-known .given (row-numbers * j + size-column)) in
     let so-far = weight-most-so-far R table (start .args .address) row (start .args .seen) (start .pre .before) (start .pre .lent .near) fits in
     let one-more = weighed .weight-of .ensures ∙ ap (weight R) (weighed .before .number3 .ensures) in
     record { fits = weights-fit row row (start .args .seen .weight) (weighed .weight-of .result) (start .pre .lent) (omega (arith, start .pre .below)) fits so-far one-more }

@@ -1,5 +1,5 @@
--- `cases::print::row` meets its contract. The invariant: at most so many numbers are printed as a row has. The measure is what
--- is left of them. Assumes nothing.
+-- `cases::print::row` meets its contract. The invariant: at most so many numbers are printed as a row has. The
+-- measure is what is left of them. Assumes nothing.
 use Prim.Native.Nat.{_≤_, _-_}
 use borrow.Author.Needs.{needs}
 use Rattle.rules.specs.Limits.{row-numbers}
