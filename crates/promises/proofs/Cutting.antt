@@ -1,5 +1,5 @@
--- The laws of a chain of feed calls, whatever engine acts on the lines: whatever the pieces and the rooms, it runs the text that it took,
--- nobody is stuck, and a report begins as that of the text so far. Assumes nothing.
+-- The laws of a chain of feed calls, whatever engine acts on the lines: whatever the pieces and the rooms, it runs the
+-- text that it took, nobody is stuck, and a report begins as that of the text so far. Assumes nothing.
 use Prim.Native.Nat.{ℕ, _+_, _<_, _≤_}
 use native.Mathlib.Omega.{arith}
 use mathlib.Core.Path.{_≡_, refl, sym, ap, subst, _∙_}
@@ -13,7 +13,8 @@ use Rattle.rules.specs.Calls.{FedWith, KeepsLengths, fits-session}
 use Rattle.rules.proofs.Tests.{by-order, by-test}
 use Rattle.rules.proofs.Feed.{run-append, taken-most, taken-some}
 use Rattle.rules.proofs.Calls.{feed-done, feed-24, feed-lent}
-use Rattle.promises.specs.Cutting.{Call, fed-on, ran-on, chain, Cutting, Early, StopsEarly, GoesOn, SoFar, Finishes}
+use Rattle.promises.specs.Cutting.{Call, fed-on, ran-on, chain, Cutting, Early, StopsEarly, GoesOn, SoFar}
+use Rattle.promises.specs.Cutting.{Finishes}
 
 -- what is put at the front of a room stands there
 put-front : (room part : List ℕ) → take (length part) (put room 0 part) ≡ part
@@ -24,7 +25,8 @@ put-front room part = take-append-seam part (drop (0 + length part) room)
 taken-first : (text room : List ℕ) (n : ℕ)
     → take (taken (take n text) (length room)) (take n text) ≡ take (taken (take n text) (length room)) text
 taken-first text room n =
-    take-take (taken (take n text) (length room)) n text (omega (arith, taken-most (take n text) (length room), length-take n text))
+    take-take (taken (take n text) (length room)) n text
+    (omega (arith, taken-most (take n text) (length room), length-take n text))
 
 module _ {P : Type 0} (engine : Engine P) where
   -- ---- one call
@@ -41,20 +43,24 @@ module _ {P : Type 0} (engine : Engine P) where
       subst Runs (sym (feed-done engine (st .session) (st .pool) piece (call .room) fits))
       (ap (λ report. record { state = is .state; report = report }) (put-front (call .room) (is .report))
       ∙ ap (run engine st) (taken-first text (call .room) (call .offered))))
-      (λ not. subst Runs (sym (feed-24 engine (st .session) (st .pool) piece (call .room) not)) (sym (run-nil engine st)))
+      (λ not.
+      subst Runs (sym (feed-24 engine (st .session) (st .pool) piece (call .room) not)) (sym (run-nil engine st)))
 
   -- ---- a chain
 
   -- whatever comes after a text, the report begins as it did
   pub so-far : SoFar engine
-  so-far st text more = (run engine (run engine st text .state) more .report, ap (λ r. r .report) (run-append engine st text more))
+  so-far st text more =
+      (run engine (run engine st text .state) more .report, ap (λ r. r .report) (run-append engine st text more))
 
   -- so where a chain has run the first part of the text, its report is the first part of the report
-  early : (st : State P) (text : List ℕ) (calls : List Call) (taken : List ℕ) → text ≡ taken ++ chain engine st text calls .left
+  early : (st : State P) (text : List ℕ) (calls : List Call) (taken : List ℕ)
+      → text ≡ taken ++ chain engine st text calls .left
       → chain engine st text calls .ran ≡ run engine st taken → Early engine st text calls
   early st text calls taken text-is ran-is =
       let left : List ℕ = chain engine st text calls .left in
-      let more : (rest : List ℕ) × (run engine st (taken ++ left) .report ≡ run engine st taken .report ++ rest) = so-far st taken left in
+      let more : (rest : List ℕ) × (run engine st (taken ++ left) .report ≡ run engine st taken .report ++ rest) =
+      so-far st taken left in
       record {
         taken = taken;
         text-is = text-is;

@@ -13,8 +13,9 @@ use Rattle.rules.specs.Release.{in-quarantine, weights}
 use Rattle.promises.specs.History.{Block, has-byte, History, weigh, latest}
 use Rattle.promises.specs.Rows.{_∈_, Apart, Inside, Distinct, HeldRow, of-row, RowOf, in-use, drawn}
 
--- a row is empty, live or quarantined; an empty row is four zeros, a live one has turn 0, and the quarantined ones have
--- the turns from 1 on, each once; no two held blocks share a byte; and the shadow is what the table draws
+-- a row is empty, live or quarantined; an empty row is all zeros, a held one has at least one byte, a live one has turn
+-- 0, and the quarantined ones have the turns from 1 on, each once; no two held blocks share a byte; and the shadow is
+-- what the table draws
 pub record ShapedAs (S : ℕ) (shadow table : List ℕ) : Type 0 where
   pub states : (i : ℕ) → i < rows table
       → (state table i ≡ empty) ⊎ ((state table i ≡ live) ⊎ (state table i ≡ quarantined))

@@ -17,7 +17,8 @@ use Rattle.rules.specs.Maps.{map32, map64, map-call}
 
 -- ---- the shadow byte
 
--- 00: all 8 bytes addressable. 01 to 07: the first k only. Any other value: none; read as a signed byte, negative means poisoned
+-- 00: all 8 bytes addressable. 01 to 07: the first k only. Any other value: none; read as a signed byte, negative means
+-- poisoned
 pub record ShadowBytes : Type 0 where
   pub all : leading 0 ≡ 8
   pub first : (k : ℕ) → 0 < k → k < 8 → leading k ≡ k
@@ -31,19 +32,24 @@ pub record ShadowBytes : Type 0 where
   pub whole : (s k : ℕ) → k < s / 8 → getD (granted s) k 0 ≡ 0
   pub remainder : (s : ℕ) → 0 < s % 8 → getD (granted s) (s / 8) 0 ≡ s % 8
   -- a released block's granules fd, an evicted one's fa
-  pub released : (pool : Pool) (i g : ℕ) → start (pool .table) i ≤ g → g < start (pool .table) i + granules (size (pool .table) i)
+  pub released : (pool : Pool) (i g : ℕ) → start (pool .table) i ≤ g
+      → g < start (pool .table) i + granules (size (pool .table) i)
       → g < length (pool .shadow) → getD (quarantine-row pool i .shadow) g 0 ≡ 0xfd
-  pub evicted : (pool : Pool) (i g : ℕ) → start (pool .table) i ≤ g → g < start (pool .table) i + granules (size (pool .table) i)
+  pub evicted : (pool : Pool) (i g : ℕ) → start (pool .table) i ≤ g
+      → g < start (pool .table) i + granules (size (pool .table) i)
       → g < length (pool .shadow) → getD (evict-row pool i .shadow) g 0 ≡ 0xfa
 
 -- ---- the range rule
 
--- a byte is addressable exactly when it is inside the arena and among its granule's addressable bytes; an access is good exactly when
--- every touched byte is, and else bad with the first that is not, and its granule's shadow byte, or ff outside the arena
+-- a byte is addressable exactly when it is inside the arena and among its granule's addressable bytes; an access is
+-- good exactly when every touched byte is, and else bad with the first that is not, and its granule's shadow byte, or
+-- ff outside the arena
 pub record Verdicts : Type 0 where
-  pub byte : (shadow : List ℕ) (b : ℕ) → (addressable shadow b ≡ true) ↔ ((b < 8 * length shadow) × (b % 8 < leading (getD shadow (b / 8) 0)))
+  pub byte : (shadow : List ℕ) (b : ℕ) → (addressable shadow b ≡ true)
+      ↔ ((b < 8 * length shadow) × (b % 8 < leading (getD shadow (b / 8) 0)))
   pub good : (shadow : List ℕ) (a n : ℕ) → (judge shadow a n ≡ Good) ↔ AllGood shadow a (a + n)
-  pub bad : (shadow : List ℕ) (a n k b : ℕ) → (judge shadow a n ≡ Bad k b) ↔ (FirstBad shadow a n b × (k ≡ kind shadow b))
+  pub bad : (shadow : List ℕ) (a n k b : ℕ) → (judge shadow a n ≡ Bad k b)
+      ↔ (FirstBad shadow a n b × (k ≡ kind shadow b))
   pub kind-inside : (shadow : List ℕ) (b : ℕ) → b < 8 * length shadow → kind shadow b ≡ getD shadow (b / 8) 0
   pub kind-outside : (shadow : List ℕ) (b : ℕ) → 8 * length shadow ≤ b → kind shadow b ≡ 0xff
 
@@ -56,14 +62,17 @@ pub record Places : Type 0 where
 
 -- ---- the address maps
 
--- a printed table, by the offset and the last address of each region, in its order: each address has the number of its region and its shadow
--- address, / 8 rounded down plus the offset; 32 in the gap, and 31 beyond the last
+-- a printed table, by the offset and the last address of each region, in its order: each address has the number of its
+-- region and its shadow address, / 8 rounded down plus the offset; 32 in the gap, and 31 beyond the last
 pub record Printed (map : Map) (offset low-mem low-shadow gap high-shadow high-mem : ℕ) : Type 0 where
   pub in-low-mem : (a : ℕ) → a ≤ low-mem → map-call map a ≡ record { status = 0; region = 1; shadow = a / 8 + offset }
-  pub in-low-shadow : (a : ℕ) → low-mem < a → a ≤ low-shadow → map-call map a ≡ record { status = 0; region = 2; shadow = a / 8 + offset }
+  pub in-low-shadow : (a : ℕ) → low-mem < a → a ≤ low-shadow
+      → map-call map a ≡ record { status = 0; region = 2; shadow = a / 8 + offset }
   pub in-gap : (a : ℕ) → low-shadow < a → a ≤ gap → map-call map a ≡ record { status = 32; region = 3; shadow = 0 }
-  pub in-high-shadow : (a : ℕ) → gap < a → a ≤ high-shadow → map-call map a ≡ record { status = 0; region = 4; shadow = a / 8 + offset }
-  pub in-high-mem : (a : ℕ) → high-shadow < a → a ≤ high-mem → map-call map a ≡ record { status = 0; region = 5; shadow = a / 8 + offset }
+  pub in-high-shadow : (a : ℕ) → gap < a → a ≤ high-shadow
+      → map-call map a ≡ record { status = 0; region = 4; shadow = a / 8 + offset }
+  pub in-high-mem : (a : ℕ) → high-shadow < a → a ≤ high-mem
+      → map-call map a ≡ record { status = 0; region = 5; shadow = a / 8 + offset }
   pub beyond : (a : ℕ) → high-mem < a → map-call map a ≡ record { status = 31; region = 0; shadow = 0 }
 
 -- the two tables
