@@ -1,10 +1,12 @@
-// Frames out: an answer in the paper's numbers, and in the report's 13 bytes.
+// Frames out: each answer in the paper's numbers, and a line's in the report's 13 bytes.
 ghost use mathlib.Core.Path.{_≡_};
 ghost use lib.ListN.{length};
 ghost use Rattle.rules.specs.Limits.{answer-bytes};
-ghost use Rattle.rules.specs.Answers.{reply, in-numbers, status};
+ghost use Rattle.rules.specs.Answers.{reply, in-numbers, opening-status, call-in-numbers, call-status};
 ghost use Rattle.rules.specs.Frames.{answer-line};
 use rules::Answer;
+use rules::CallAnswer;
+use rules::OpeningAnswer;
 use rules::Reply;
 use rules::limits::ANSWER_KIND_END;
 use rules::limits::ANSWER_STATUS_END;
@@ -21,7 +23,7 @@ fn reply(status: u8, kind: u8, value: u32) -> Reply
     }
 }
 
-// The paper's table, a row a case: number, kind, value.
+// A line's answer: the paper's table to 09, a row a case: number, kind, value.
 pub fn numbers_of(answer: Answer) -> Reply
     ensures { λ r. ⌜ r ≡ in-numbers answer ⌝ }
 {
@@ -35,20 +37,36 @@ pub fn numbers_of(answer: Answer) -> Reply
         Answer::NotHeld => reply(7, 0, 0),
         Answer::Released => reply(8, 0, 0),
         Answer::NotGood { kind, first } => reply(9, kind, first),
-        Answer::BadShadowLength => reply(21, 0, 0),
-        Answer::BadRedzone => reply(22, 0, 0),
-        Answer::BadTableLength => reply(23, 0, 0),
-        Answer::BadSession => reply(24, 0, 0),
-        Answer::BeyondMap => reply(31, 0, 0),
-        Answer::InGap => reply(32, 0, 0),
     }
 }
 
-// An answer's number in the table.
-pub fn status_of(answer: Answer) -> u8
-    ensures { λ r. ⌜ r ≡ status answer ⌝ }
+// An opening's number.
+pub fn opening_status_of(answer: OpeningAnswer) -> u8
+    ensures { λ r. ⌜ r ≡ opening-status answer ⌝ }
 {
-    let reply = numbers_of(answer);
+    match answer {
+        OpeningAnswer::Open => 0,
+        OpeningAnswer::BadShadowLength => 21,
+        OpeningAnswer::BadRedzone => 22,
+        OpeningAnswer::BadTableLength => 23,
+    }
+}
+
+// Any later call's answer: as a line's, or 24.
+pub fn call_numbers_of(answer: CallAnswer) -> Reply
+    ensures { λ r. ⌜ r ≡ call-in-numbers answer ⌝ }
+{
+    match answer {
+        CallAnswer::Answered(line) => numbers_of(line),
+        CallAnswer::BadSession => reply(24, 0, 0),
+    }
+}
+
+// Its number alone.
+pub fn call_status_of(answer: CallAnswer) -> u8
+    ensures { λ r. ⌜ r ≡ call-status answer ⌝ }
+{
+    let reply = call_numbers_of(answer);
     reply.status
 }
 

@@ -1,7 +1,7 @@
 // Printing what a public call answered and left: answers as the report writes them, a shadow and a table as runs of equal
 // bytes and rows ("2*fa 00 05" is fa fa 00 05), so that the longest buffer is a few words.
 use crate::show;
-use rules::Answer;
+use rules::CallAnswer;
 use rules::Fed;
 use rules::Session;
 use rules::limits::ROW_NUMBERS;
@@ -29,9 +29,9 @@ pub fn status(status: u8) {
 }
 
 // "Status (2), kind (2), value (8)."
-pub fn answer(words: &[u8], answer: Answer) {
+pub fn answer(words: &[u8], answer: CallAnswer) {
     io::write_all(1, words);
-    let reply = answers::numbers_of(answer);
+    let reply = answers::call_numbers_of(answer);
     status(reply.status);
     io::print_hex(1, reply.kind as u64, 2);
     io::print_hex(1, reply.value as u64, 8);

@@ -35,7 +35,7 @@ pub extern "C" fn kinkhost_grant(
     ensures { λ r. ⌜ GrantInNumbers session (now (shadow .entry)) (now (table .entry)) size
         r (now (shadow .exit)) (now (table .exit)) ⌝ }
 {
-    answers::numbers_of(watcher::grant(session, shadow, table, size))
+    answers::call_numbers_of(watcher::grant(session, shadow, table, size))
 }
 
 #[no_mangle]
@@ -48,7 +48,7 @@ pub extern "C" fn kinkhost_release(
     ensures { λ r. ⌜ ReleaseInNumbers session (now (shadow .entry)) (now (table .entry)) address
         r (now (shadow .exit)) (now (table .exit)) ⌝ }
 {
-    answers::numbers_of(watcher::release(session, shadow, table, address))
+    answers::call_numbers_of(watcher::release(session, shadow, table, address))
 }
 
 #[no_mangle]
@@ -61,7 +61,7 @@ pub extern "C" fn kinkhost_access(
 ) -> Reply
     ensures { λ r. ⌜ AccessInNumbers session (now (shadow .entry)) (now (table .entry)) address length r ⌝ }
 {
-    answers::numbers_of(watcher::access(session, shadow, table, address, length))
+    answers::call_numbers_of(watcher::access(session, shadow, table, address, length))
 }
 
 #[no_mangle]
@@ -98,7 +98,7 @@ pub extern "C" fn kinkhost_feed_in_place(
 pub extern "C" fn kinkhost_unfinished(session: Session) -> Reply
     ensures { λ r. ⌜ UnfinishedInNumbers session r ⌝ }
 {
-    answers::numbers_of(watcher::unfinished(session))
+    answers::call_numbers_of(watcher::unfinished(session))
 }
 
 #[no_mangle]

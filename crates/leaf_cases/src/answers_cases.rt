@@ -1,36 +1,16 @@
-// Frames out: each answer of the paper's table in numbers, and as the bytes of a report.
+// Frames out: each answer of the paper's table in numbers, and a line's as the bytes of a report.
 use crate::lines_cases::letters;
 use cases::show;
 use cases::show::Three;
 use cases::text;
 use rules::Answer;
+use rules::CallAnswer;
+use rules::MapAnswer;
+use rules::OpeningAnswer;
+use rules::Reply;
 use rules::limits::ANSWER_BYTES;
 
-// The paper's table from 21 on, by the number.
-fn of_calls(status: u64) -> Answer {
-    if status == 21 {
-        return Answer::BadShadowLength;
-    }
-    if status == 22 {
-        return Answer::BadRedzone;
-    }
-    if status == 23 {
-        return Answer::BadTableLength;
-    }
-    if status == 24 {
-        return Answer::BadSession;
-    }
-    if status == 31 {
-        return Answer::BeyondMap;
-    }
-    if status == 32 {
-        return Answer::InGap;
-    }
-    show::not_asked();
-    Answer::BadSession
-}
-
-// Its rows without a kind or a value.
+// A line's answers without a kind or a value, by the number.
 fn of_number(status: u64) -> Answer {
     if status == 1 {
         return Answer::BadLine;
@@ -53,7 +33,8 @@ fn of_number(status: u64) -> Answer {
     if status == 8 {
         return Answer::Released;
     }
-    of_calls(status)
+    show::not_asked();
+    Answer::BadLine
 }
 
 fn answer_of(line: &[u8]) -> Answer {
@@ -69,6 +50,56 @@ fn answer_of(line: &[u8]) -> Answer {
     of_number(status)
 }
 
+// An opening's answers that refuse it.
+fn of_opening(status: u64) -> OpeningAnswer {
+    if status == 21 {
+        return OpeningAnswer::BadShadowLength;
+    }
+    if status == 22 {
+        return OpeningAnswer::BadRedzone;
+    }
+    if status == 23 {
+        return OpeningAnswer::BadTableLength;
+    }
+    show::not_asked();
+    OpeningAnswer::Open
+}
+
+// A map's.
+fn of_map(status: u64) -> MapAnswer {
+    if status == 31 {
+        return MapAnswer::BeyondMap;
+    }
+    if status == 32 {
+        return MapAnswer::InGap;
+    }
+    show::not_asked();
+    MapAnswer::HasShadow
+}
+
+fn three(reply: Reply) -> Three {
+    Three(reply.status as u64, reply.kind as u64, reply.value as u64)
+}
+
+// The rows from 21 on: an opening's, a later call's, a map's.
+fn of_area(status: u64) -> Three {
+    if status == 24 {
+        return three(answers::call_numbers_of(CallAnswer::BadSession));
+    }
+    if status < 24 {
+        return Three(answers::opening_status_of(of_opening(status)) as u64, 0, 0);
+    }
+    Three(maps::status_of(of_map(status)) as u64, 0, 0)
+}
+
+fn answered(line: &[u8]) -> Three {
+    let status = text::number(line, 1);
+    if status < 10 {
+        return three(answers::numbers_of(answer_of(line)));
+    }
+    of_area(status)
+}
+
 fn expected(line: &[u8]) -> Three {
     let status = text::number(line, 1);
     let kind = text::number(line, 2);
@@ -76,9 +107,7 @@ fn expected(line: &[u8]) -> Three {
 }
 
 pub fn numbers_of(line: &[u8]) {
-    let reply = answers::numbers_of(answer_of(line));
-    let answered = Three(reply.status as u64, reply.kind as u64, reply.value as u64);
-    show::case(show::same_three(answered, expected(line)));
+    show::case(show::same_three(answered(line), expected(line)));
 }
 
 fn within(part: &mut [u8], answer: Answer) {

@@ -40,7 +40,7 @@ fn release_within(shadow: &mut [u8], table: &mut [u32], limit: u32, address: u32
         return quarantine::release(shadow, table, 2, limit, address);
     }
     show::not_asked();
-    Answer::BadSession
+    Answer::BadLine
 }
 
 // 00 and a count, 07 or 08 and 0, as the paper's table has them.

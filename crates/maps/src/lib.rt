@@ -1,9 +1,10 @@
 // The two published address maps: an address's region, and the address of its shadow byte.
 ghost use Prim.Native.Nat.{_^_, _<_};
 ghost use mathlib.Core.Path.{_≡_};
-ghost use Rattle.rules.specs.Answers.{status};
-ghost use Rattle.rules.specs.Maps.{map32, map64, region, region-number, map-answer, map-shadow, map-call, Published};
+ghost use Rattle.rules.specs.Answers.{map-status};
+ghost use Rattle.rules.specs.Maps.{map32, map64, region, mapped, map-call, Published};
 use rules::Map;
+use rules::MapAnswer;
 use rules::Mapped;
 use rules::Region;
 use rules::limits::GRANULE;
@@ -50,41 +51,38 @@ fn region_of(map: Map, address: u64) -> Region
     Region::Nowhere
 }
 
+// A map's number.
+pub fn status_of(answer: MapAnswer) -> u8
+    ensures { λ r. ⌜ r ≡ map-status answer ⌝ }
+{
+    match answer {
+        MapAnswer::HasShadow => 0,
+        MapAnswer::BeyondMap => 31,
+        MapAnswer::InGap => 32,
+    }
+}
+
+fn handed(answer: MapAnswer, region: u8, shadow: u64) -> Mapped
+    ensures { λ r. ⌜ r ≡ record { status = map-status answer; region = region; shadow = shadow } ⌝ }
+{
+    Mapped {
+        status: status_of(answer),
+        region,
+        shadow,
+    }
+}
+
 // What is handed back of an address in the region `found`, whose shadow address is `shadow`.
 fn mapped(found: Region, shadow: u64) -> Mapped
-    ensures { λ r. ⌜ r ≡ record { status = status (map-answer found); region = region-number found; shadow = map-shadow found shadow } ⌝ }
+    ensures { λ r. ⌜ r ≡ mapped found shadow ⌝ }
 {
     match found {
-        Region::Nowhere => Mapped {
-            status: 31,
-            region: 0,
-            shadow: 0,
-        },
-        Region::LowMem => Mapped {
-            status: 0,
-            region: 1,
-            shadow,
-        },
-        Region::LowShadow => Mapped {
-            status: 0,
-            region: 2,
-            shadow,
-        },
-        Region::ShadowGap => Mapped {
-            status: 32,
-            region: 3,
-            shadow: 0,
-        },
-        Region::HighShadow => Mapped {
-            status: 0,
-            region: 4,
-            shadow,
-        },
-        Region::HighMem => Mapped {
-            status: 0,
-            region: 5,
-            shadow,
-        },
+        Region::Nowhere => handed(MapAnswer::BeyondMap, 0, 0),
+        Region::LowMem => handed(MapAnswer::HasShadow, 1, shadow),
+        Region::LowShadow => handed(MapAnswer::HasShadow, 2, shadow),
+        Region::ShadowGap => handed(MapAnswer::InGap, 3, 0),
+        Region::HighShadow => handed(MapAnswer::HasShadow, 4, shadow),
+        Region::HighMem => handed(MapAnswer::HasShadow, 5, shadow),
     }
 }
 

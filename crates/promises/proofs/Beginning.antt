@@ -11,7 +11,7 @@ use lib.ListN.{length, replicate, length-replicate}
 use Rattle.rules.specs.Limits.{row-numbers, least-granules, most-granules, least-redzone, most-redzone, between}
 use Rattle.rules.specs.Limits.{state-column, empty, live, quarantined, redzone-byte}
 use Rattle.rules.specs.Table.{rows, state}
-use Rattle.rules.specs.Answers.{in-numbers, status}
+use Rattle.rules.specs.Answers.{opening-status}
 use Rattle.rules.specs.Release.{Pool}
 use Rattle.rules.specs.Feed.{State, emptied, run}
 use Rattle.rules.specs.Watcher.{watcher, state-of}
@@ -96,7 +96,7 @@ opened-has : (o : Opening) (P : OpenedWith → Type 0)
     → between least-redzone most-redzone (o .redzone) ≡ true
     → table-length (length (o .table)) ≡ true → P (opened-with (o .shadow) (o .table) (o .redzone) (o .quarantine)))
     → P (open-with (o .shadow) (o .table) (o .redzone) (o .quarantine))
-unfolding status in-numbers
+unfolding opening-status
 opened-has o P passed =
     by-test (between least-granules most-granules (length (o .shadow)))
     (λ a.

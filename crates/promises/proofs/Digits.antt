@@ -5,7 +5,6 @@ use mathlib.Core.Path.{sym, subst}
 use mathlib.Core.List.{List}
 use lib.ListN.{length}
 use Rattle.rules.specs.declared.Answer.{Answer}
-use Rattle.rules.specs.declared.Answer.the-variants.{Done, BadLine, BadKind, NotZero, NoRow, NoPlace, NotHeld, Released, NotGood, BadShadowLength, BadRedzone, BadTableLength, BadSession, BeyondMap, InGap}
 use Rattle.rules.specs.Limits.{live, row-numbers, most-rows, most-granules}
 use Rattle.rules.specs.Table.{rows}
 use Rattle.rules.specs.Shadow.{first-bad}
@@ -17,6 +16,7 @@ use Rattle.rules.specs.Feed.{State, act-line}
 use Rattle.rules.specs.Watcher.{access, act, watcher}
 use Rattle.rules.specs.Calls.{LentState}
 use Rattle.rules.proofs.Tests.{by-found}
+use Rattle.rules.proofs.Answers.{line-status}
 use Rattle.rules.proofs.Shadow.{first-bad-some, first-bad-fits}
 use Rattle.rules.proofs.Grant.{place-fits, by-grant}
 use Rattle.rules.proofs.Release.{row-at-some, by-release, evicted-most, quarantine-row-lengths}
@@ -64,19 +64,4 @@ value-fits st lent =
 
 -- and every status its 2
 pub status-fits : (answer : Answer) → status answer < 16 ^ 2
-unfolding status in-numbers
-status-fits (Done value) = omega arith
-status-fits BadLine = omega arith
-status-fits BadKind = omega arith
-status-fits NotZero = omega arith
-status-fits NoRow = omega arith
-status-fits NoPlace = omega arith
-status-fits NotHeld = omega arith
-status-fits Released = omega arith
-status-fits (NotGood kind first) = omega arith
-status-fits BadShadowLength = omega arith
-status-fits BadRedzone = omega arith
-status-fits BadTableLength = omega arith
-status-fits BadSession = omega arith
-status-fits BeyondMap = omega arith
-status-fits InGap = omega arith
+status-fits answer = omega (arith, line-status answer)

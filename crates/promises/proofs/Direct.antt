@@ -19,6 +19,7 @@ use Rattle.rules.specs.Hex.{digit, digits, digits-zero, digits-suc, written, wr
 use Rattle.rules.specs.Frames.{fields, frame, with-zero, frame-of-line, answer-line, line-of}
 use Rattle.rules.specs.Feed.{State, no-bytes, emptied, act-line, finish, hold, after, run, run-nil}
 use Rattle.rules.specs.Watcher.{act, watcher, state-of, outcome}
+use Rattle.rules.specs.Calls.{as-line}
 use Rattle.rules.proofs.Put.{Each}
 use Rattle.rules.proofs.Hex.{length-written}
 use Rattle.rules.proofs.Frames.{fields-written, line-asks, frame-grant, frame-release, frame-read, frame-write, with-zero-is, line-whole}
@@ -87,8 +88,10 @@ emptied-same session other same =
     (same .redzone) (same .quarantine)
 
 -- a line with no line feed in it, and then a line feed: what its frame does
-line-runs : (st : State Pool) (line : List ℕ) (k : Frame) → st .session ≡ emptied (st .session) → NoFeed line → frame-of-line (length line) line ≡ k
-    → run watcher st (line ++ (line-feed ∷ [])) ≡ told-as st (act (st .session) (st .pool .shadow) (st .pool .table) k)
+line-runs : (st : State Pool) (line : List ℕ) (k : Frame) → st .session ≡ emptied (st .session)
+    → NoFeed line → frame-of-line (length line) line ≡ k
+    → run watcher st (line ++ (line-feed ∷ []))
+    ≡ told-as st (as-line (act (st .session) (st .pool .shadow) (st .pool .table) k))
 unfolding finish act-line emptied
 line-runs st line k none· no-feed asks-k =
     let mid : State Pool = run watcher st line .state in
@@ -112,9 +115,10 @@ line-runs st line k none· no-feed asks-k =
     session-is acted-is
 
 -- the line of a frame of 32-bit numbers asks that frame
-frame-runs : (st : State Pool) (kind A B : ℕ) → st .session ≡ emptied (st .session) → kind < 16 ^ 2 → A < 16 ^ 8 → B < 16 ^ 8
+frame-runs : (st : State Pool) (kind A B : ℕ) → st .session ≡ emptied (st .session)
+    → kind < 16 ^ 2 → A < 16 ^ 8 → B < 16 ^ 8
     → run watcher st (line-of (fields kind A B))
-    ≡ told-as st (act (st .session) (st .pool .shadow) (st .pool .table) (frame (fields kind A B)))
+    ≡ told-as st (as-line (act (st .session) (st .pool .shadow) (st .pool .table) (frame (fields kind A B))))
 unfolding line-of
 frame-runs st kind A B none· in2 in8 in8′ =
     let said : Fields = fields kind A B in
@@ -131,21 +135,25 @@ direct-calls = record {
   grant = λ st idle s fits.
       frame-runs st kind-grant s 0 (idle .none-unfinished) (omega arith) fits (omega arith)
       ∙ ap (told-as st)
-      (ap (act (st .session) (st .pool .shadow) (st .pool .table)) (frame-grant s 0 ∙ with-zero-is (Grant s))
+      (ap (λ f. as-line (act (st .session) (st .pool .shadow) (st .pool .table) f))
+      (frame-grant s 0 ∙ with-zero-is (Grant s))
       ∙ sym (grant-as-frame (st .session) (st .pool .shadow) (st .pool .table) s (idle .fits)));
   release = λ st idle a fits.
       frame-runs st kind-release a 0 (idle .none-unfinished) (omega arith) fits (omega arith)
       ∙ ap (told-as st)
-      (ap (act (st .session) (st .pool .shadow) (st .pool .table)) (frame-release a 0 ∙ with-zero-is (Release a))
+      (ap (λ f. as-line (act (st .session) (st .pool .shadow) (st .pool .table) f))
+      (frame-release a 0 ∙ with-zero-is (Release a))
       ∙ sym (release-as-frame (st .session) (st .pool .shadow) (st .pool .table) a (idle .fits)));
   read = λ st idle a n fits fits′.
       frame-runs st kind-read a n (idle .none-unfinished) (omega arith) fits fits′
       ∙ ap (told-as st)
-      (ap (act (st .session) (st .pool .shadow) (st .pool .table)) (frame-read a n)
+      (ap (λ f. as-line (act (st .session) (st .pool .shadow) (st .pool .table) f))
+      (frame-read a n)
       ∙ sym (access-as-frame (st .session) (st .pool .shadow) (st .pool .table) a n (idle .fits)));
   write = λ st idle a n fits fits′.
       frame-runs st kind-write a n (idle .none-unfinished) (omega arith) fits fits′
       ∙ ap (told-as st)
-      (ap (act (st .session) (st .pool .shadow) (st .pool .table)) (frame-write a n)
+      (ap (λ f. as-line (act (st .session) (st .pool .shadow) (st .pool .table) f))
+      (frame-write a n)
       ∙ sym (access-as-frame (st .session) (st .pool .shadow) (st .pool .table) a n (idle .fits)));
 }

@@ -7,7 +7,7 @@ use Rattle.rules.specs.declared.Region.the-variants.{LowMem, LowShadow, HighSha
 use Rattle.rules.specs.declared.Map.{Map}
 use Rattle.rules.specs.Limits.{redzone-byte, released-byte}
 use Rattle.rules.specs.Shadow.{shadow-of}
-use Rattle.rules.specs.Answers.{status, in-numbers}
+use Rattle.rules.specs.Answers.{opening-status, map-status}
 use Rattle.rules.specs.Release.{quarantine-row}
 use Rattle.rules.specs.Maps.{map32, map64, shadow-address, region-number, map-answer, map-shadow, Published}
 use Rattle.rules.proofs.Shadow.{leading-all, leading-first, leading-none, negative-poisoned, judge-good, judge-bad, good-judge, bad-judge, addressable-inside, addressable-leading, addressable-is, kind-inside, kind-outside}
@@ -19,7 +19,7 @@ use Rattle.promises.specs.Published.{ShadowBytes, Verdicts, Places, Prin
 
 -- what a shadow byte says, and the bytes that a grant paints
 pub shadow-bytes : ShadowBytes
-unfolding status in-numbers quarantine-row
+unfolding opening-status quarantine-row
 shadow-bytes = record {
   all = leading-all;
   first = leading-first;
@@ -61,7 +61,7 @@ places = record {
 -- every row of a published table
 printed : (map : Map) → Published map
     → Printed map (map .offset) (map .«low_mem») (map .«low_shadow») (map .«shadow_gap») (map .«high_shadow») (map .«high_mem»)
-unfolding status in-numbers map-answer region-number map-shadow shadow-address
+unfolding map-status map-answer region-number map-shadow shadow-address
 printed map p = record {
   in-low-mem = λ a last. map-call-at map a LowMem (in-low-mem map p a last);
   in-low-shadow = λ a first last. map-call-at map a LowShadow (in-low-shadow map p a first last);

@@ -5,16 +5,17 @@ use mathlib.Core.Bool.{Bool, true, false, false≢true, _||_}
 use mathlib.Core.List.{List, [], _∷_, List·Memᴰ·head, List·Memᴰ·tail}
 use lib.Dec.{eqb}
 use borrow.Author.Tests.{eqb-true}
-use Rattle.rules.specs.declared.Answer.{Answer}
+use Rattle.rules.specs.declared.CallAnswer.{CallAnswer}
 use Rattle.rules.specs.declared.Region.{Region}
 use Rattle.rules.specs.declared.Region.the-variants.{Nowhere, LowMem, LowShadow, ShadowGap, HighShadow, HighMem}
 use Rattle.rules.specs.Shadow.{first-bad}
-use Rattle.rules.specs.Answers.{status, in-numbers}
-use Rattle.rules.specs.Grant.{Acted, grant-at, grant}
+use Rattle.rules.specs.Answers.{status, in-numbers, opening-status, call-status, call-in-numbers, map-status}
+use Rattle.rules.specs.Grant.{grant-at, grant}
 use Rattle.rules.specs.Release.{release-row, release, Pool}
 use Rattle.rules.specs.Feed.{State, emptied, act-line, finish}
 use Rattle.rules.specs.Watcher.{access, act, watcher, state-of, pool-of}
-use Rattle.rules.specs.Calls.{FedWith, fits-lent, within-limits, grant-call, release-call, access-call, unfinished-call, feed-by, feed}
+use Rattle.rules.specs.Calls.{FedWith, Called, fits-lent, within-limits, grant-call, release-call}
+use Rattle.rules.specs.Calls.{access-call, unfinished-call, feed-by, feed}
 use Rattle.rules.specs.Maps.{region, map-answer, map-call}
 use Rattle.rules.proofs.Tests.{by-test, by-found}
 use Rattle.rules.proofs.Grant.{by-grant}
@@ -65,8 +66,8 @@ line-number P done no-line no-kind not-zero no-row no-place foreign twice bad st
     (st .session .unfinished) (st .session .line)
 
 -- a map's answer, as a number, of any map
-map-number : (P : ℕ → Type 0) → P 0 → P 31 → P 32 → (r : Region) → P (status (map-answer r))
-unfolding map-answer status in-numbers
+map-number : (P : ℕ → Type 0) → P 0 → P 31 → P 32 → (r : Region) → P (map-status (map-answer r))
+unfolding map-answer map-status
 map-number P done past gap Nowhere = past
 map-number P done past gap LowMem = done
 map-number P done past gap LowShadow = done
@@ -91,26 +92,29 @@ one-of {n} {list} e = among-in n list e
 
 -- every call answers a number that is its own
 pub total : Total
-unfolding grant-call release-call access-call unfinished-call feed-by map-call status in-numbers
+unfolding grant-call release-call access-call unfinished-call feed-by map-call
+    status in-numbers opening-status call-status call-in-numbers
 total = record {
   opening = λ shadow table R Q.
       by-open shadow table R Q (λ o. o .given .status ∈ (0 ∷ 21 ∷ 22 ∷ 23 ∷ []))
       (λ a. one-of refl) (λ a b. one-of refl) (λ a b c. one-of refl) (one-of refl);
   grant = λ session shadow table s.
-      either (λ (acted : Acted). status (acted .answer) ∈ (0 ∷ 5 ∷ 6 ∷ 24 ∷ [])) (fits-lent session shadow table)
-      (grant-number (λ n. n ∈ (0 ∷ 5 ∷ 6 ∷ 24 ∷ [])) (one-of refl) (one-of refl) (one-of refl) (session .redzone) shadow table s)
+      either (λ (c : Called). call-status (c .answer) ∈ (0 ∷ 5 ∷ 6 ∷ 24 ∷ [])) (fits-lent session shadow table)
+      (grant-number (λ n. n ∈ (0 ∷ 5 ∷ 6 ∷ 24 ∷ [])) (one-of refl) (one-of refl) (one-of refl)
+      (session .redzone) shadow table s)
       (one-of refl);
   release = λ session shadow table a.
-      either (λ (acted : Acted). status (acted .answer) ∈ (0 ∷ 7 ∷ 8 ∷ 24 ∷ [])) (fits-lent session shadow table)
+      either (λ (c : Called). call-status (c .answer) ∈ (0 ∷ 7 ∷ 8 ∷ 24 ∷ [])) (fits-lent session shadow table)
       (release-number (λ n. n ∈ (0 ∷ 7 ∷ 8 ∷ 24 ∷ [])) (one-of refl) (one-of refl) (one-of refl)
       (session .redzone) (session .quarantine) shadow table a)
       (one-of refl);
   access = λ session shadow table a n.
-      either (λ (answer : Answer). status answer ∈ (0 ∷ 9 ∷ 24 ∷ [])) (fits-lent session shadow table)
+      either (λ (answer : CallAnswer). call-status answer ∈ (0 ∷ 9 ∷ 24 ∷ [])) (fits-lent session shadow table)
       (access-number (λ m. m ∈ (0 ∷ 9 ∷ 24 ∷ [])) (one-of refl) (one-of refl) shadow a n)
       (one-of refl);
   unfinished = λ session.
-      either (λ (answer : Answer). status answer ∈ (0 ∷ 24 ∷ [])) (within-limits session) (one-of refl) (one-of refl);
+      either (λ (answer : CallAnswer). call-status answer ∈ (0 ∷ 24 ∷ [])) (within-limits session)
+      (one-of refl) (one-of refl);
   feed = λ session shadow table piece room.
       either (λ (fed : FedWith Pool). fed .given .status ∈ (0 ∷ 24 ∷ [])) (fits-lent session shadow table) (one-of refl) (one-of refl);
   line = line-number (λ n. n ∈ (0 ∷ 1 ∷ 2 ∷ 3 ∷ 5 ∷ 6 ∷ 7 ∷ 8 ∷ 9 ∷ []))
@@ -122,7 +126,7 @@ total = record {
 
 -- refused, none changes anything
 pub refusals-keep : RefusalsKeep
-unfolding status in-numbers finish
+unfolding call-status call-in-numbers in-numbers finish
 refusals-keep = record {
   opening = open-refused;
   grant = grant-call-refused;

@@ -9,7 +9,7 @@ use Rattle.rules.specs.declared.Session.{Session}
 use Rattle.rules.specs.declared.Reply.{Reply}
 use Rattle.rules.specs.declared.Answer.the-variants.{Done}
 use Rattle.rules.specs.Limits.{too-long}
-use Rattle.rules.specs.Answers.{in-numbers}
+use Rattle.rules.specs.Answers.{in-numbers, call-in-numbers}
 use Rattle.rules.specs.Release.{Pool}
 use Rattle.rules.specs.Watcher.{state-of, watcher}
 use Rattle.rules.specs.Calls.{within-limits, fits-lent, unfinished-call}
@@ -22,7 +22,7 @@ use Rattle.tally.proofs.Judged.{passed, not-passed}
 use Rattle.replay.specs.declared.offer.Run.{Run}
 use Rattle.replay.specs.Offer.{Leads, left, Ends}
 
-module _ (session : Session) (reply : Reply) (is : reply ≡ in-numbers (unfinished-call session)) where
+module _ (session : Session) (reply : Reply) (is : reply ≡ call-in-numbers (unfinished-call session)) where
   pub left-unsaid : (reply .status ≡ 0 → ⊥) → too-long ≡ left session
   unfolding left
   left-unsaid refused = sym (if-false _ _ (ne-eqb _ _ (λ done. refused (ap (λ r. r .status) is ∙ done))))
@@ -33,9 +33,10 @@ module _ (session : Session) (reply : Reply) (is : reply ≡ in-numbers (unfinis
 
 -- a session within its limits says how long its line is
 left-within : (session : Session) → within-limits session ≡ true → left session ≡ session .unfinished
-unfolding left in-numbers
+unfolding left call-in-numbers in-numbers
 left-within session within =
-    let is : in-numbers (unfinished-call session) ≡ in-numbers (Done (session .unfinished)) = ap in-numbers (unfinished-done session within) in
+    let is : call-in-numbers (unfinished-call session) ≡ in-numbers (Done (session .unfinished)) =
+    ap call-in-numbers (unfinished-done session within) in
     if-true _ _ (eq-eqb _ _ (ap (λ r. r .status) is)) ∙ ap (λ r. r .value) is
 
 -- an error is neither verdict

@@ -11,7 +11,8 @@ use Rattle.rules.specs.declared.Fed.{Fed}
 use Rattle.rules.specs.Release.{Pool}
 use Rattle.rules.specs.Feed.{State, run}
 use Rattle.rules.specs.Limits.{too-long}
-use Rattle.rules.specs.Answers.{in-numbers}
+use Rattle.rules.specs.declared.Reply.{Reply}
+use Rattle.rules.specs.Answers.{call-in-numbers}
 use Rattle.rules.specs.Watcher.{watcher, state-of}
 use Rattle.rules.specs.Calls.{unfinished-call}
 use Rattle.tally.specs.Tally.{with-report, verdict}
@@ -39,7 +40,9 @@ pub record Taken (before : Run) (shadow table part : List ℕ) (r : Run) (shadow
 
 -- the unfinished line's length, or 19 where the session cannot say
 unfoldable pub left : Session → ℕ
-left session = elim (eqb (in-numbers (unfinished-call session) .status) 0) [ true ↦ in-numbers (unfinished-call session) .value | false ↦ too-long ]
+left session =
+    let said : Reply = call-in-numbers (unfinished-call session) in
+    elim (eqb (said .status) 0) [ true ↦ said .value | false ↦ too-long ]
 
 -- how a run ends: 0 and 1 are its tally's verdict, and are said only of a run that was written whole
 pub record Ends (run : Run) (r : ℕ) : Type 0 where

@@ -54,7 +54,7 @@ fn outcome(tally: Tally, left: u32) {
 fn unfinished(session: Session) -> u32
     ensures { λ r. ⌜ r ≡ left session ⌝ }
 {
-    let reply = answers::numbers_of(watcher::unfinished(session));
+    let reply = answers::call_numbers_of(watcher::unfinished(session));
     if reply.status != 0 {
         return 19;
     }

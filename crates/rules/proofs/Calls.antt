@@ -11,21 +11,26 @@ use lib.Seq.{getD-set-other}
 use lib.Dec.{eqb}
 use borrow.Author.Tests.{eqb-true, eq-eqb, ne-eqb, leb-true, le-leb}
 use Rattle.rules.specs.declared.Session.{Session}
-use Rattle.rules.specs.declared.Answer.the-variants.{Done, BadShadowLength, BadRedzone, BadTableLength, BadSession}
+use Rattle.rules.specs.declared.Answer.the-variants.{Done}
+use Rattle.rules.specs.declared.CallAnswer.the-variants.{Answered, BadSession}
+use Rattle.rules.specs.declared.OpeningAnswer.the-variants.{Open, BadShadowLength, BadRedzone, BadTableLength}
 use Rattle.rules.specs.declared.Frame.the-variants.{Grant, Release, Read}
 use Rattle.rules.specs.Limits.{between, least-granules, most-granules, least-rows, most-rows, row-numbers, least-redzone, most-redzone, frame-digits, too-long, redzone-byte}
-use Rattle.rules.specs.Answers.{in-numbers, status}
+use Rattle.rules.specs.Answers.{in-numbers, status, opening-status, call-in-numbers, call-status}
 use Rattle.rules.specs.Lowest.{lowest, found, all-equal, AllEqual}
-use Rattle.rules.specs.Grant.{unchanged}
 use Rattle.rules.specs.Release.{Pool}
 use Rattle.rules.specs.Feed.{Engine, State, Ran, no-bytes, with-line, emptied, lengthened, act-line, finish, hold, step, run, taken}
 use Rattle.rules.specs.Watcher.{act, pool-of, lent-lengths, watcher, state-of}
-use Rattle.rules.specs.Calls.{closed, fresh, table-length, OpenedWith, not-opened, open-with, unused-zero, within-limits, fits-lent, grant-call, release-call, access-call, unfinished-call, fed-with, feed, Within, Lent, LentState, fits-session, KeepsLengths, FedWith, feed-by}
+use Rattle.rules.specs.Calls.{closed, fresh, table-length, OpenedWith, not-opened, open-with, unused-zero}
+use Rattle.rules.specs.Calls.{within-limits, fits-lent, Within, Lent, LentState, fits-session, KeepsLengths}
+use Rattle.rules.specs.Calls.{Called, called, as-line, grant-call, release-call, access-call, unfinished-call}
+use Rattle.rules.specs.Calls.{FedWith, fed-with, feed-by, feed}
 use Rattle.rules.proofs.Tests.{between-is, between-true, both, by-order, by-test, if-false, if-true, join}
 use Rattle.rules.proofs.Lowest.{walk-found, walk-on, walk-end, all-equal-true, all-equal-is}
 use Rattle.rules.proofs.Put.{length-put, put-after, put-nothing}
-use Rattle.rules.proofs.Feed.{SameNumbers, lengthened-short, lengthened-long, by-byte, step-numbers, run-has, run-report, taken-fits}
-use Rattle.rules.proofs.Watcher.{RefusedKeeps, grant-refused, release-refused, act-lengths}
+use Rattle.rules.proofs.Feed.{SameNumbers, lengthened-short, lengthened-long, by-byte, step-numbers}
+use Rattle.rules.proofs.Feed.{run-has, run-report, taken-fits}
+use Rattle.rules.proofs.Watcher.{grant-refused, release-refused, act-lengths}
 
 -- ---- the check behind 24
 
@@ -205,7 +210,7 @@ open-bad-table shadow table R Q a b c = if-true _ _ a ∙ if-true _ _ b ∙ if-f
 -- what an accepted opening gives
 abbrev pub opened-with : List ℕ → List ℕ → ℕ → ℕ → OpenedWith
 opened-with shadow table R Q = record {
-  given = record { session = fresh (length shadow) (length table / row-numbers) R Q; status = status (Done 0) };
+  given = record { session = fresh (length shadow) (length table / row-numbers) R Q; status = opening-status Open };
   shadow = replicate (length shadow) redzone-byte;
   table = replicate (length table) 0;
 }
@@ -238,7 +243,7 @@ abbrev pub NotOpened : List ℕ → List ℕ → OpenedWith → Type 0
 NotOpened shadow table o = o .given .status ≢ 0 → (o .given .session ≡ closed) × (o .shadow ≡ shadow) × (o .table ≡ table)
 
 pub open-refused : (shadow table : List ℕ) (R Q : ℕ) → NotOpened shadow table (open-with shadow table R Q)
-unfolding status in-numbers
+unfolding opening-status
 open-refused shadow table R Q =
     by-open shadow table R Q (NotOpened shadow table)
     (λ a refused. (refl, refl, refl)) (λ a b refused. (refl, refl, refl)) (λ a b c refused. (refl, refl, refl)) (λ refused. absurd (refused refl))
@@ -269,28 +274,28 @@ open-lent shadow table R Q a b c =
 
 -- they answer as their frames do
 pub grant-as-frame : (session : Session) (shadow table : List ℕ) (s : ℕ) → fits-lent session shadow table ≡ true
-    → grant-call session shadow table s ≡ act session shadow table (Grant s)
+    → grant-call session shadow table s ≡ as-line (act session shadow table (Grant s))
 unfolding grant-call act
 grant-as-frame session shadow table s e = if-true _ _ e
 
 pub release-as-frame : (session : Session) (shadow table : List ℕ) (a : ℕ) → fits-lent session shadow table ≡ true
-    → release-call session shadow table a ≡ act session shadow table (Release a)
+    → release-call session shadow table a ≡ as-line (act session shadow table (Release a))
 unfolding release-call act
 release-as-frame session shadow table a e = if-true _ _ e
 
 pub access-as-frame : (session : Session) (shadow table : List ℕ) (a n : ℕ) → fits-lent session shadow table ≡ true
-    → unchanged (access-call session shadow table a n) shadow table ≡ act session shadow table (Read a n)
+    → called (access-call session shadow table a n) shadow table ≡ as-line (act session shadow table (Read a n))
 unfolding access-call act
-access-as-frame session shadow table a n e = ap (λ answer. unchanged answer shadow table) (if-true _ _ e)
+access-as-frame session shadow table a n e = ap (λ answer. called answer shadow table) (if-true _ _ e)
 
 -- 24 first, and it changes nothing
 pub grant-24 : (session : Session) (shadow table : List ℕ) (s : ℕ) → fits-lent session shadow table ≡ false
-    → grant-call session shadow table s ≡ unchanged BadSession shadow table
+    → grant-call session shadow table s ≡ called BadSession shadow table
 unfolding grant-call
 grant-24 session shadow table s e = if-false _ _ e
 
 pub release-24 : (session : Session) (shadow table : List ℕ) (a : ℕ) → fits-lent session shadow table ≡ false
-    → release-call session shadow table a ≡ unchanged BadSession shadow table
+    → release-call session shadow table a ≡ called BadSession shadow table
 unfolding release-call
 release-24 session shadow table a e = if-false _ _ e
 
@@ -300,25 +305,34 @@ unfolding access-call
 access-24 session shadow table a n e = if-false _ _ e
 
 -- a refused one changes neither shadow nor table
-pub grant-call-refused : (session : Session) (shadow table : List ℕ) (s : ℕ) → RefusedKeeps shadow table (grant-call session shadow table s)
-unfolding grant-call
+abbrev pub CallRefusedKeeps : List ℕ → List ℕ → Called → Type 0
+CallRefusedKeeps shadow table c = call-status (c .answer) ≢ 0 → (c .shadow ≡ shadow) × (c .table ≡ table)
+
+pub grant-call-refused : (session : Session) (shadow table : List ℕ) (s : ℕ)
+    → CallRefusedKeeps shadow table (grant-call session shadow table s)
+unfolding grant-call call-status call-in-numbers status
 grant-call-refused session shadow table s =
     by-test (fits-lent session shadow table)
-    (λ fits. subst (RefusedKeeps shadow table) (sym (if-true _ _ fits)) (grant-refused (session .redzone) shadow table s))
-    (λ not. subst (RefusedKeeps shadow table) (sym (if-false _ _ not)) (λ refused. (refl, refl)))
+    (λ fits.
+    subst (CallRefusedKeeps shadow table) (sym (if-true _ _ fits)) (grant-refused (session .redzone) shadow table s))
+    (λ not. subst (CallRefusedKeeps shadow table) (sym (if-false _ _ not)) (λ refused. (refl, refl)))
 
-pub release-call-refused : (session : Session) (shadow table : List ℕ) (a : ℕ) → RefusedKeeps shadow table (release-call session shadow table a)
-unfolding release-call
+pub release-call-refused : (session : Session) (shadow table : List ℕ) (a : ℕ)
+    → CallRefusedKeeps shadow table (release-call session shadow table a)
+unfolding release-call call-status call-in-numbers status
 release-call-refused session shadow table a =
     by-test (fits-lent session shadow table)
-    (λ fits. subst (RefusedKeeps shadow table) (sym (if-true _ _ fits)) (release-refused (session .redzone) (session .quarantine) shadow table a))
-    (λ not. subst (RefusedKeeps shadow table) (sym (if-false _ _ not)) (λ refused. (refl, refl)))
+    (λ fits.
+    subst (CallRefusedKeeps shadow table) (sym (if-true _ _ fits))
+    (release-refused (session .redzone) (session .quarantine) shadow table a))
+    (λ not. subst (CallRefusedKeeps shadow table) (sym (if-false _ _ not)) (λ refused. (refl, refl)))
 
 pub unfinished-24 : (session : Session) → within-limits session ≡ false → unfinished-call session ≡ BadSession
 unfolding unfinished-call
 unfinished-24 session e = if-false _ _ e
 
-pub unfinished-done : (session : Session) → within-limits session ≡ true → unfinished-call session ≡ Done (session .unfinished)
+pub unfinished-done : (session : Session) → within-limits session ≡ true
+    → unfinished-call session ≡ Answered (Done (session .unfinished))
 unfolding unfinished-call
 unfinished-done session e = if-true _ _ e
 
@@ -344,7 +358,7 @@ module _ {P : Type 0} (engine : Engine P) (session : Session) (pool : P) (piece 
 
   -- 24 gives the session back, takes no byte and writes none
   pub feed-24 : fits-session engine session pool ≡ false → feed-by engine session pool piece room ≡ not-fed session pool room
-  unfolding feed-by status in-numbers
+  unfolding feed-by call-status call-in-numbers
   feed-24 e = if-false _ _ e
 
   -- the report fits the room
@@ -384,7 +398,7 @@ module _ {P : Type 0} (engine : Engine P) (session : Session) (pool : P) (piece 
 pub feed-empty : {P : Type 0} (engine : Engine P) (session : Session) (pool : P) (room : List ℕ) → fits-session engine session pool ≡ true
     → feed-by engine session pool [] room
     ≡ record { given = record { session = session; status = 0; taken = 0; wrote = 0 }; pool = pool; room = room }
-unfolding taken run status in-numbers
+unfolding taken run call-status call-in-numbers in-numbers
 feed-empty engine session pool room e =
     feed-done engine session pool [] room e
     ∙ ap (λ r. record { given = record { session = session; status = 0; taken = 0; wrote = 0 }; pool = pool; room = r }) (put-nothing room 0)

@@ -4,6 +4,7 @@ pub mod Lowest
 pub mod Put
 pub mod Table
 pub mod Shadow
+pub mod Answers
 pub mod Grant
 pub mod Release
 pub mod Hex

@@ -7,9 +7,10 @@ use borrow.Author.Tests.{le-leb, lt-leb}
 use Rattle.rules.specs.declared.Region.{Region}
 use Rattle.rules.specs.declared.Region.the-variants.{Nowhere, LowMem, LowShadow, ShadowGap, HighShadow, HighMem}
 use Rattle.rules.specs.Limits.{granule}
-use Rattle.rules.specs.Answers.{status, in-numbers}
+use Rattle.rules.specs.Answers.{map-status}
 use Rattle.rules.specs.declared.Map.{Map}
-use Rattle.rules.specs.Maps.{map32, map64, shadow-address, region, region-number, map-answer, map-shadow, map-call, Published}
+use Rattle.rules.specs.Maps.{map32, map64, shadow-address, region, region-number, map-answer, map-shadow}
+use Rattle.rules.specs.Maps.{mapped, map-call, Published}
 use Rattle.rules.proofs.Tests.{if-false, if-true}
 
 pub published32 : Published map32
@@ -95,20 +96,19 @@ shared map a b e = omega arith
 -- ---- what the call hands back
 
 pub map-call-at : (map : Map) (a : ℕ) (r : Region) → region map a ≡ r
-    → map-call map a ≡ record { status = status (map-answer r); region = region-number r; shadow = map-shadow r (shadow-address map a) }
+    → map-call map a ≡ mapped r (shadow-address map a)
 unfolding map-call
-map-call-at map a r e =
-    ap (λ (s : Region). record { status = status (map-answer s); region = region-number s; shadow = map-shadow s (shadow-address map a) }) e
+map-call-at map a r e = ap (λ (s : Region). mapped s (shadow-address map a)) e
 
 -- 31 beyond the last address: no region, shadow address 0
 pub map-beyond : (map : Map) → Published map → (a : ℕ) → map .«high_mem» < a → map-call map a ≡ record { status = 31; region = 0; shadow = 0 }
-unfolding status in-numbers map-answer region-number map-shadow
+unfolding map-status map-answer region-number map-shadow
 map-beyond map p a past = map-call-at map a Nowhere (beyond map p a past)
 
 -- 32 in the gap: the gap, shadow address 0
 pub map-gap : (map : Map) → Published map → (a : ℕ) → map .«low_shadow» < a → a ≤ map .«shadow_gap»
     → map-call map a ≡ record { status = 32; region = 3; shadow = 0 }
-unfolding status in-numbers map-answer region-number map-shadow
+unfolding map-status map-answer region-number map-shadow
 map-gap map p a first last = map-call-at map a ShadowGap (in-gap map p a first last)
 
 -- ---- the printed tables, a region's first and last address a line

@@ -14,7 +14,7 @@ use Rattle.rules.specs.declared.Frame.{Frame}
 use Rattle.rules.specs.declared.Frame.the-variants.{Grant, Release, Read, Write, Refused}
 use Rattle.rules.specs.declared.Region.{Region}
 use Rattle.rules.specs.Limits.{between, least-granules, most-granules, least-redzone, most-redzone, kind-grant, kind-release, kind-read, kind-write, live, quarantined}
-use Rattle.rules.specs.Answers.{in-numbers, status}
+use Rattle.rules.specs.Answers.{in-numbers, status, opening-status, call-in-numbers, call-status, map-status}
 use Rattle.rules.specs.Shadow.{kind, first-bad, FirstBad}
 use Rattle.rules.specs.Grant.{counted, granules, place, empty-row, grant-at, grant}
 use Rattle.rules.specs.Release.{row-at, release-row, release}
@@ -28,6 +28,7 @@ use Rattle.rules.proofs.Shadow.{first-bad-some, verdict-none, verdict-s
 use Rattle.rules.proofs.Grant.{by-grant}
 use Rattle.rules.proofs.Release.{by-release}
 use Rattle.rules.proofs.Frames.{by-zero, by-kind}
+use Rattle.rules.proofs.Answers.{answered-not-24}
 use Rattle.rules.proofs.Calls.{by-open, grant-as-frame, release-as-frame, access-as-frame, unfinished-done, feed-done}
 use Rattle.rules.proofs.Maps.{in-low-mem, in-low-shadow, in-gap, in-high-shadow, in-high-mem, beyond, map-call-at}
 
@@ -139,7 +140,7 @@ only-03 kind A B =
 
 pub only-21 : (shadow table : List ℕ) (R Q : ℕ) → open-with shadow table R Q .given .status ≡ 21
     → between least-granules most-granules (length shadow) ≡ false
-unfolding status in-numbers
+unfolding opening-status
 only-21 shadow table R Q =
     by-open shadow table R Q (λ o. o .given .status ≡ 21 → between least-granules most-granules (length shadow) ≡ false)
     (λ a e. a) (λ a b e. absurd (omega arith)) (λ a b c e. absurd (omega arith)) (λ e. absurd (omega arith))
@@ -147,69 +148,49 @@ only-21 shadow table R Q =
 -- each asked after the ones before it
 pub only-22 : (shadow table : List ℕ) (R Q : ℕ) → open-with shadow table R Q .given .status ≡ 22
     → (between least-granules most-granules (length shadow) ≡ true) × (between least-redzone most-redzone R ≡ false)
-unfolding status in-numbers
+unfolding opening-status
 only-22 shadow table R Q =
     by-open shadow table R Q (λ o. o .given .status ≡ 22 → (between least-granules most-granules (length shadow) ≡ true) × (between least-redzone most-redzone R ≡ false))
     (λ a e. absurd (omega arith)) (λ a b e. (a, b)) (λ a b c e. absurd (omega arith)) (λ e. absurd (omega arith))
 
 pub only-23 : (shadow table : List ℕ) (R Q : ℕ) → open-with shadow table R Q .given .status ≡ 23
     → (between least-granules most-granules (length shadow) ≡ true) × (between least-redzone most-redzone R ≡ true) × (table-length (length table) ≡ false)
-unfolding status in-numbers
+unfolding opening-status
 only-23 shadow table R Q =
     by-open shadow table R Q (λ o. o .given .status ≡ 23 → (between least-granules most-granules (length shadow) ≡ true) × (between least-redzone most-redzone R ≡ true) × (table-length (length table) ≡ false))
     (λ a e. absurd (omega arith)) (λ a b e. absurd (omega arith)) (λ a b c e. (a, b, c)) (λ e. absurd (omega arith))
 
 -- ---- later calls: 24
 
-pub only-24-grant : (session : Session) (shadow table : List ℕ) (s : ℕ) → status (grant-call session shadow table s .answer) ≡ 24
-    → fits-lent session shadow table ≡ false
-unfolding act grant-at status in-numbers
+pub only-24-grant : (session : Session) (shadow table : List ℕ) (s : ℕ)
+    → call-status (grant-call session shadow table s .answer) ≡ 24 → fits-lent session shadow table ≡ false
 only-24-grant session shadow table s e =
     by-test (fits-lent session shadow table)
-    (λ fits.
-    absurd
-    (by-grant (session .redzone) shadow table s (λ acted. status (acted .answer) ≢ 24)
-    (λ full f. absurd (omega arith)) (λ i row nowhere f. absurd (omega arith)) (λ i p row at f. absurd (omega arith))
-    (ap (λ a. status (a .answer)) (sym (grant-as-frame session shadow table s fits)) ∙ e)))
+    (λ fits. absurd (answered-not-24 (ap (λ c. c .answer) (grant-as-frame session shadow table s fits)) e))
     (λ unfit. unfit)
 
-pub only-24-release : (session : Session) (shadow table : List ℕ) (a : ℕ) → status (release-call session shadow table a .answer) ≡ 24
-    → fits-lent session shadow table ≡ false
-unfolding act release-row status in-numbers
+pub only-24-release : (session : Session) (shadow table : List ℕ) (a : ℕ)
+    → call-status (release-call session shadow table a .answer) ≡ 24 → fits-lent session shadow table ≡ false
 only-24-release session shadow table a e =
     by-test (fits-lent session shadow table)
-    (λ fits.
-    absurd
-    (by-release (session .redzone) (session .quarantine) shadow table a (λ acted. status (acted .answer) ≢ 24)
-    (λ g f. absurd (omega arith))
-    (λ above no-live no-quarantined f. absurd (omega arith))
-    (λ above no-live i g f. absurd (omega arith))
-    (λ above i g f. absurd (omega arith))
-    (ap (λ r. status (r .answer)) (sym (release-as-frame session shadow table a fits)) ∙ e)))
+    (λ fits. absurd (answered-not-24 (ap (λ c. c .answer) (release-as-frame session shadow table a fits)) e))
     (λ unfit. unfit)
 
-pub only-24-access : (session : Session) (shadow table : List ℕ) (a n : ℕ) → status (access-call session shadow table a n) ≡ 24
-    → fits-lent session shadow table ≡ false
-unfolding act status in-numbers
+pub only-24-access : (session : Session) (shadow table : List ℕ) (a n : ℕ)
+    → call-status (access-call session shadow table a n) ≡ 24 → fits-lent session shadow table ≡ false
 only-24-access session shadow table a n e =
     by-test (fits-lent session shadow table)
-    (λ fits.
-    let f : status (access shadow a n) ≡ 24 = ap (λ r. status (r .answer)) (sym (access-as-frame session shadow table a n fits)) ∙ e in
-    by-found (first-bad shadow a n)
-    (λ b g. absurd (omega (arith, ap status (access-bad shadow a n b g))))
-    (λ g. absurd (omega (arith, ap status (access-good shadow a n g)))))
+    (λ fits. absurd (answered-not-24 (ap (λ c. c .answer) (access-as-frame session shadow table a n fits)) e))
     (λ unfit. unfit)
 
-pub only-24-unfinished : (session : Session) → status (unfinished-call session) ≡ 24 → within-limits session ≡ false
-unfolding status in-numbers
+pub only-24-unfinished : (session : Session) → call-status (unfinished-call session) ≡ 24
+    → within-limits session ≡ false
 only-24-unfinished session e =
-    by-test (within-limits session)
-    (λ fits. absurd (omega (arith, ap status (unfinished-done session fits))))
-    (λ unfit. unfit)
+    by-test (within-limits session) (λ fits. absurd (answered-not-24 (unfinished-done session fits) e)) (λ unfit. unfit)
 
-pub only-24-feed : (session : Session) (shadow table piece room : List ℕ) → feed session shadow table piece room .given .status ≡ 24
-    → fits-lent session shadow table ≡ false
-unfolding status in-numbers
+pub only-24-feed : (session : Session) (shadow table piece room : List ℕ)
+    → feed session shadow table piece room .given .status ≡ 24 → fits-lent session shadow table ≡ false
+unfolding call-status call-in-numbers in-numbers
 only-24-feed session shadow table piece room e =
     by-test (fits-lent session shadow table)
     (λ fits. absurd (omega (arith, ap (λ f. f .given .status) (feed-done watcher session (pool-of shadow table) piece room fits))))
@@ -220,7 +201,7 @@ only-24-feed session shadow table piece room e =
 module _ (map : Map) (p : Published map) (a : ℕ) where
   -- what a map answers, by the region
   answer-map : (P : ℕ → Type 0) → (map .«high_mem» < a → P 31) → (map .«low_shadow» < a → a ≤ map .«shadow_gap» → P 32) → P 0 → P (map-call map a .status)
-  unfolding status in-numbers map-answer
+  unfolding map-status map-answer
   answer-map P past gap done =
       by-order (map .«low_mem») a
       (λ above-low.
@@ -238,7 +219,7 @@ module _ (map : Map) (p : Published map) (a : ℕ) where
       (λ in-low. at (in-low-shadow map p a above-low in-low) done))
       (λ in-low. at (in-low-mem map p a in-low) done)
     where
-      at : {r : Region} → region map a ≡ r → P (status (map-answer r)) → P (map-call map a .status)
+      at : {r : Region} → region map a ≡ r → P (map-status (map-answer r)) → P (map-call map a .status)
       at {r} e x = subst (λ m. P (m .status)) (sym (map-call-at map a r e)) x
 
   pub only-31 : map-call map a .status ≡ 31 → map .«high_mem» < a

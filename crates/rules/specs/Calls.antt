@@ -8,14 +8,17 @@ use lib.Dec.{eqb, leb}
 use Rattle.rules.specs.declared.Session.{Session}
 use Rattle.rules.specs.declared.Opened.{Opened}
 use Rattle.rules.specs.declared.Fed.{Fed}
-use Rattle.rules.specs.declared.Answer.{Answer}
 use Rattle.rules.specs.declared.Frame.{Frame}
-use Rattle.rules.specs.declared.Answer.the-variants.{Done, BadShadowLength, BadRedzone, BadTableLength, BadSession}
+use Rattle.rules.specs.declared.Answer.the-variants.{Done}
+use Rattle.rules.specs.declared.CallAnswer.{CallAnswer}
+use Rattle.rules.specs.declared.CallAnswer.the-variants.{Answered, BadSession}
+use Rattle.rules.specs.declared.OpeningAnswer.{OpeningAnswer}
+use Rattle.rules.specs.declared.OpeningAnswer.the-variants.{Open, BadShadowLength, BadRedzone, BadTableLength}
 use Rattle.rules.specs.Limits.{between, least-granules, most-granules, least-rows, most-rows, row-numbers, least-redzone, most-redzone, frame-digits, too-long, redzone-byte}
-use Rattle.rules.specs.Answers.{status}
+use Rattle.rules.specs.Answers.{opening-status, call-status}
 use Rattle.rules.specs.Lowest.{all-equal, AllEqual}
 use Rattle.rules.specs.Put.{put}
-use Rattle.rules.specs.Grant.{Acted, unchanged, grant}
+use Rattle.rules.specs.Grant.{Acted, grant}
 use Rattle.rules.specs.Release.{Pool, release}
 use Rattle.rules.specs.Feed.{Engine, Ran, no-bytes, run, taken, State}
 use Rattle.rules.specs.Watcher.{access, pool-of, watcher}
@@ -39,9 +42,9 @@ pub record OpenedWith : Type 0 where
   pub shadow : List ℕ
   pub table : List ℕ
 
-abbrev pub not-opened : Answer → List ℕ → List ℕ → OpenedWith
+abbrev pub not-opened : OpeningAnswer → List ℕ → List ℕ → OpenedWith
 not-opened answer shadow table = record {
-  given = record { session = closed; status = status answer };
+  given = record { session = closed; status = opening-status answer };
   shadow = shadow;
   table = table;
 }
@@ -58,7 +61,10 @@ open-with shadow table R Q =
                 elim (table-length (length table)) [
                   | false ↦ not-opened BadTableLength shadow table
                   | true ↦ record {
-                    given = record { session = fresh (length shadow) (length table / row-numbers) R Q; status = status (Done 0) };
+                    given = record {
+                      session = fresh (length shadow) (length table / row-numbers) R Q;
+                      status = opening-status Open;
+                    };
                     shadow = replicate (length shadow) redzone-byte;
                     table = replicate (length table) 0;
                   }
@@ -115,27 +121,41 @@ LentState st = Lent (st .session) (st .pool .shadow) (st .pool .table)
 
 -- ---- the direct calls: 24 first, then as their frames answer
 
-unfoldable pub grant-call : Session → List ℕ → List ℕ → ℕ → Acted
+-- what a direct call leaves: its answer, and the shadow and the table after it
+pub record Called : Type 0 where
+  pub answer : CallAnswer
+  pub shadow : List ℕ
+  pub table : List ℕ
+
+abbrev pub called : CallAnswer → List ℕ → List ℕ → Called
+called answer shadow table = record { answer = answer; shadow = shadow; table = table }
+
+-- as a line does
+abbrev pub as-line : Acted → Called
+as-line acted = called (Answered (acted .answer)) (acted .shadow) (acted .table)
+
+unfoldable pub grant-call : Session → List ℕ → List ℕ → ℕ → Called
 grant-call session shadow table s =
     elim (fits-lent session shadow table) [
-      | true ↦ grant (session .redzone) shadow table s
-      | false ↦ unchanged BadSession shadow table
+      | true ↦ as-line (grant (session .redzone) shadow table s)
+      | false ↦ called BadSession shadow table
     ]
 
-unfoldable pub release-call : Session → List ℕ → List ℕ → ℕ → Acted
+unfoldable pub release-call : Session → List ℕ → List ℕ → ℕ → Called
 release-call session shadow table a =
     elim (fits-lent session shadow table) [
-      | true ↦ release (session .redzone) (session .quarantine) shadow table a
-      | false ↦ unchanged BadSession shadow table
+      | true ↦ as-line (release (session .redzone) (session .quarantine) shadow table a)
+      | false ↦ called BadSession shadow table
     ]
 
-unfoldable pub access-call : Session → List ℕ → List ℕ → ℕ → ℕ → Answer
+unfoldable pub access-call : Session → List ℕ → List ℕ → ℕ → ℕ → CallAnswer
 access-call session shadow table a n =
-    elim (fits-lent session shadow table) [ true ↦ access shadow a n | false ↦ BadSession ]
+    elim (fits-lent session shadow table) [ true ↦ Answered (access shadow a n) | false ↦ BadSession ]
 
 -- the length of the unfinished line, 0 to 19
-unfoldable pub unfinished-call : Session → Answer
-unfinished-call session = elim (within-limits session) [ true ↦ Done (session .unfinished) | false ↦ BadSession ]
+unfoldable pub unfinished-call : Session → CallAnswer
+unfinished-call session =
+    elim (within-limits session) [ true ↦ Answered (Done (session .unfinished)) | false ↦ BadSession ]
 
 -- ---- feed
 
@@ -148,7 +168,12 @@ pub record FedWith (P : Type 0) : Type 0 where
 -- `n` bytes taken of the text that ran; room beyond the bytes written is unchanged
 abbrev pub fed-with : {P : Type 0} → Ran P → ℕ → List ℕ → FedWith P
 fed-with ran n room = record {
-  given = record { session = ran .state .session; status = status (Done 0); taken = n; wrote = length (ran .report) };
+  given = record {
+    session = ran .state .session;
+    status = call-status (Answered (Done 0));
+    taken = n;
+    wrote = length (ran .report);
+  };
   pool = ran .state .pool;
   room = put room 0 (ran .report);
 }
@@ -161,7 +186,7 @@ feed-by engine session pool piece room =
           let n : ℕ = taken piece (length room) in
           fed-with (run engine (record { session = session; pool = pool }) (take n piece)) n room
       | false ↦ record {
-        given = record { session = session; status = status BadSession; taken = 0; wrote = 0 };
+        given = record { session = session; status = call-status BadSession; taken = 0; wrote = 0 };
         pool = pool;
         room = room;
       }

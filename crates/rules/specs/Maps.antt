@@ -3,14 +3,14 @@ use Prim.Native.Nat.{ℕ, _+_, _/_, _<_}
 use mathlib.Core.Path.{_≡_}
 use mathlib.Core.Bool.{true, false}
 use lib.Dec.{leb}
-use Rattle.rules.specs.declared.Answer.{Answer}
-use Rattle.rules.specs.declared.Answer.the-variants.{Done, BeyondMap, InGap}
+use Rattle.rules.specs.declared.MapAnswer.{MapAnswer}
+use Rattle.rules.specs.declared.MapAnswer.the-variants.{HasShadow, BeyondMap, InGap}
 use Rattle.rules.specs.declared.Region.{Region}
 use Rattle.rules.specs.declared.Region.the-variants.{Nowhere, LowMem, LowShadow, ShadowGap, HighShadow, HighMem}
 use Rattle.rules.specs.declared.Map.{Map}
 use Rattle.rules.specs.declared.Mapped.{Mapped}
 use Rattle.rules.specs.Limits.{granule}
-use Rattle.rules.specs.Answers.{status}
+use Rattle.rules.specs.Answers.{map-status}
 
 -- the printed table, a column a map
 abbrev pub map32 : Map
@@ -80,13 +80,13 @@ region-number HighShadow = 4
 region-number HighMem = 5
 
 -- done, 31 where the address is in no region, 32 where it is in the gap
-unfoldable pub map-answer : Region → Answer
+unfoldable pub map-answer : Region → MapAnswer
 map-answer Nowhere = BeyondMap
-map-answer LowMem = Done 0
-map-answer LowShadow = Done 0
+map-answer LowMem = HasShadow
+map-answer LowShadow = HasShadow
 map-answer ShadowGap = InGap
-map-answer HighShadow = Done 0
-map-answer HighMem = Done 0
+map-answer HighShadow = HasShadow
+map-answer HighMem = HasShadow
 
 -- 31 and 32 give shadow address 0
 unfoldable pub map-shadow : Region → ℕ → ℕ
@@ -97,10 +97,9 @@ map-shadow ShadowGap s = 0
 map-shadow HighShadow s = s
 map-shadow HighMem s = s
 
--- the region and the shadow address
+-- the region and the shadow address, of an address in this region
+abbrev pub mapped : Region → ℕ → Mapped
+mapped r s = record { status = map-status (map-answer r); region = region-number r; shadow = map-shadow r s }
+
 unfoldable pub map-call : Map → ℕ → Mapped
-map-call map a = record {
-  status = status (map-answer (region map a));
-  region = region-number (region map a);
-  shadow = map-shadow (region map a) (shadow-address map a);
-}
+map-call map a = mapped (region map a) (shadow-address map a)

@@ -52,7 +52,8 @@ pub fn zero_row() -> Row
     }
 }
 
-// An answer, a case for each row of the paper's table.
+// A line's answer: the rows 00 to 09 of the paper's table. Each area has answers of its own, so that none can give
+// another's.
 pub enum Answer {
     // 00
     Done { value: u32 },
@@ -72,18 +73,36 @@ pub enum Answer {
     Released,
     // 09: an access that is not good, with its first bad byte and the kind of that byte
     NotGood { kind: u8, first: u32 },
-    // 21, 22, 23: an opening with such a shadow length, redzone or table length
+}
+
+// What a call answers that is handed a session.
+pub enum CallAnswer {
+    // as a line does
+    Answered(Answer),
+    // 24: the session is closed, or does not fit what is lent or its limits
+    BadSession,
+}
+
+// An opening's answer.
+pub enum OpeningAnswer {
+    // 00
+    Open,
+    // 21, 22, 23: such a shadow length, redzone or table length
     BadShadowLength,
     BadRedzone,
     BadTableLength,
-    // 24: a later call with a session that is closed, or does not fit what is lent or its limits
-    BadSession,
+}
+
+// A map's answer.
+pub enum MapAnswer {
+    // 00
+    HasShadow,
     // 31, 32: an address beyond the map's last, or in its gap
     BeyondMap,
     InGap,
 }
 
-// An answer in the paper's numbers.
+// The answer of a line or of a call, in the paper's numbers.
 #[repr(C)]
 pub struct Reply {
     pub status: u8,

@@ -10,7 +10,8 @@ use lib.Seq.{take-append-le, drop-append-le, drop-append-add}
 use lib.Dec.{ltb}
 use borrow.Author.Tests.{eq-eqb, ne-eqb, ltb-false, le-ltb}
 use Rattle.rules.specs.declared.Answer.{Answer}
-use Rattle.rules.specs.declared.Answer.the-variants.{Done, BadLine, BadKind, NotZero, NoRow, NoPlace, NotHeld, Released, NotGood, BadShadowLength, BadRedzone, BadTableLength, BadSession, BeyondMap, InGap}
+use Rattle.rules.specs.declared.Answer.the-variants.{Done, BadLine, BadKind, NotZero, NoRow, NoPlace}
+use Rattle.rules.specs.declared.Answer.the-variants.{NotHeld, Released, NotGood}
 use Rattle.rules.specs.Limits.{answer-bytes, line-feed}
 use Rattle.rules.specs.Lowest.{answered}
 use Rattle.rules.specs.Answers.{in-numbers, status}
@@ -125,12 +126,6 @@ number-read NoPlace = refl
 number-read NotHeld = refl
 number-read Released = refl
 number-read (NotGood kind first) = refl
-number-read BadShadowLength = refl
-number-read BadRedzone = refl
-number-read BadTableLength = refl
-number-read BadSession = refl
-number-read BeyondMap = refl
-number-read InGap = refl
 
 -- a line feed's report is one answer
 tally-feed : (t : Tally) (st : State Pool) → with-report t (step watcher st line-feed .report) ≡ with-answer t (min (status (act-line watcher st .answer)) 10)

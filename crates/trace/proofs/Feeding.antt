@@ -12,8 +12,9 @@ use borrow.Author.Tests.{ne-eqb, lt-ltb, le-ltb}
 use Rattle.rules.specs.declared.Session.{Session}
 use Rattle.rules.specs.declared.Fed.{Fed}
 use Rattle.rules.specs.declared.Answer.the-variants.{Done}
+use Rattle.rules.specs.declared.CallAnswer.the-variants.{Answered}
 use Rattle.rules.specs.Limits.{line-feed, answer-bytes}
-use Rattle.rules.specs.Answers.{status}
+use Rattle.rules.specs.Answers.{call-status}
 use Rattle.rules.specs.Put.{put}
 use Rattle.rules.specs.Release.{Pool}
 use Rattle.rules.specs.Feed.{State, Ran, lengthened, finish, hold, step, after, run, run-nil, run-cons, taken, taken-nil, taken-byte, taken-answered, taken-stops}
@@ -158,7 +159,7 @@ module _ {start : State Pool} {piece room-before : List ℕ} {st : State Pool} {
   abbrev given : ℕ → Fed
   given done = record { session = st .session; status = done; taken = i; wrote = w }
 
-  stops : (done : ℕ) → done ≡ status (Done 0) → taken (drop i piece) left ≡ 0
+  stops : (done : ℕ) → done ≡ call-status (Answered (Done 0)) → taken (drop i piece) left ≡ 0
       → fed (given done) (st .pool .shadow) (st .pool .table) room ≡ fed-of start piece room-before
   stops done is-done none =
       let n : ℕ = taken piece (length room-before) in
@@ -171,17 +172,18 @@ module _ {start : State Pool} {piece room-before : List ℕ} {st : State Pool} {
       λ a b c. fed (record { session = st .session; status = a; taken = b; wrote = c }) (st .pool .shadow) (st .pool .table) (put room-before 0 (f .report)) in
       ap (fed (given done) (st .pool .shadow) (st .pool .table)) (f .room-is)
       ∙ ap (λ a. handed a i w) is-done
-      ∙ ap (λ b. handed (status (Done 0)) b w) (sym all)
-      ∙ ap (handed (status (Done 0)) n) (sym (f .wrote))
+      ∙ ap (λ b. handed (call-status (Answered (Done 0))) b w) (sym all)
+      ∙ ap (handed (call-status (Answered (Done 0))) n) (sym (f .wrote))
       ∙ ap (λ r. fed-with r n room-before) (sym ran)
 
   -- the piece ends
-  pub feeding-end : (done : ℕ) → done ≡ status (Done 0) → length piece ≤ i
+  pub feeding-end : (done : ℕ) → done ≡ call-status (Answered (Done 0)) → length piece ≤ i
       → fed (given done) (st .pool .shadow) (st .pool .table) room ≡ fed-of start piece room-before
   feeding-end done is-done past = stops done is-done (ap (λ l. taken l left) (drop-of-length-le piece {i = i} past) ∙ taken-nil left)
 
   -- a line feed, and no room for its answer
-  pub feeding-full : (done : ℕ) → done ≡ status (Done 0) → i < length piece → getD piece i 0 ≡ line-feed → left < answer-bytes
+  pub feeding-full : (done : ℕ) → done ≡ call-status (Answered (Done 0))
+      → i < length piece → getD piece i 0 ≡ line-feed → left < answer-bytes
       → fed (given done) (st .pool .shadow) (st .pool .table) room ≡ fed-of start piece room-before
   feeding-full done is-done below is-feed full =
       stops done is-done

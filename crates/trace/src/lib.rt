@@ -1,6 +1,7 @@
 // A trace: one finished line, and a piece byte by byte, for a session that has passed the check behind 24.
 use frames::lines;
 use rules::Answer;
+use rules::CallAnswer;
 use rules::Fed;
 use rules::Session;
 use rules::limits::ANSWER_BYTES;
@@ -36,7 +37,8 @@ pub fn feed(
     ensures { λ r. ⌜ fed r (now (shadow .exit)) (now (table .exit)) (now (room .exit))
         ≡ fed-of (state-of session (now (shadow .entry)) (now (table .entry))) (now (piece .entry)) (now (room .entry)) ⌝ }
 {
-    let status = answers::status_of(Answer::Done { value: 0 });
+    let done = Answer::Done { value: 0 };
+    let status = answers::call_status_of(CallAnswer::Answered(done));
     let mut current = session;
     let mut taken = 0;
     let mut wrote = 0;

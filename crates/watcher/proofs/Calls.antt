@@ -3,12 +3,11 @@ use Prim.Native.Nat.{ℕ}
 use mathlib.Core.Path.{_≡_, ap, ap₂, _∙_}
 use mathlib.Core.List.{List}
 use Rattle.rules.specs.declared.Session.{Session}
-use Rattle.rules.specs.declared.Answer.{Answer}
+use Rattle.rules.specs.declared.CallAnswer.{CallAnswer}
 use Rattle.rules.specs.declared.Opened.{Opened}
 use Rattle.rules.specs.declared.Fed.{Fed}
-use Rattle.rules.specs.Grant.{acted}
 use Rattle.rules.specs.Release.{Pool}
-use Rattle.rules.specs.Calls.{OpenedWith, open-with, grant-call, release-call, FedWith, feed}
+use Rattle.rules.specs.Calls.{OpenedWith, open-with, called, grant-call, release-call, FedWith, feed}
 use Rattle.watcher.specs.Calls.{OpenCall, GrantCall, ReleaseCall, FeedCall}
 use Rattle.trace.specs.Feed.{fed}
 
@@ -20,8 +19,8 @@ module _ {shadow table : List ℕ} {R Q : ℕ} {r : Opened} {shadow-after table-
       → OpenCall shadow table R Q r shadow-after table-after
   open-call-is e = record { given = ap (λ o. o .given) e; shadow = ap (λ o. o .shadow) e; table = ap (λ o. o .table) e }
 
-module _ {session : Session} {shadow table : List ℕ} {n : ℕ} {r : Answer} {shadow-after table-after : List ℕ} where
-  pub grant-call-is : acted r shadow-after table-after ≡ grant-call session shadow table n
+module _ {session : Session} {shadow table : List ℕ} {n : ℕ} {r : CallAnswer} {shadow-after table-after : List ℕ} where
+  pub grant-call-is : called r shadow-after table-after ≡ grant-call session shadow table n
       → GrantCall session shadow table n r shadow-after table-after
   grant-call-is e = record {
     answer = ap (λ a. a .answer) e;
@@ -29,7 +28,7 @@ module _ {session : Session} {shadow table : List ℕ} {n : ℕ} {r : Answer} {s
     table = ap (λ a. a .table) e;
   }
 
-  pub release-call-is : acted r shadow-after table-after ≡ release-call session shadow table n
+  pub release-call-is : called r shadow-after table-after ≡ release-call session shadow table n
       → ReleaseCall session shadow table n r shadow-after table-after
   release-call-is e = record {
     answer = ap (λ a. a .answer) e;

@@ -3,7 +3,7 @@ use Prim.Native.Nat.{ℕ}
 use mathlib.Core.Path.{_≡_, sym, _∙_}
 use mathlib.Core.List.{List}
 use Rattle.rules.specs.declared.Session.{Session}
-use Rattle.rules.specs.declared.Answer.{Answer}
+use Rattle.rules.specs.declared.CallAnswer.{CallAnswer}
 use Rattle.rules.specs.declared.Opened.{Opened}
 use Rattle.rules.specs.declared.Fed.{Fed}
 use Rattle.watcher.specs.Calls.{OpenCall, GrantCall, ReleaseCall, AccessCall, UnfinishedCall, FeedCall}
@@ -14,7 +14,8 @@ module _ {shadow table : List ℕ} {R Q : ℕ} {one two : Opened} {shadow-one ta
       → (one ≡ two) × (shadow-one ≡ shadow-two) × (table-one ≡ table-two)
   open-call-only a b = (a .given ∙ sym (b .given), a .shadow ∙ sym (b .shadow), a .table ∙ sym (b .table))
 
-module _ {session : Session} {shadow table : List ℕ} {n : ℕ} {one two : Answer} {shadow-one table-one shadow-two table-two : List ℕ} where
+module _ {session : Session} {shadow table : List ℕ} {n : ℕ} {one two : CallAnswer}
+    {shadow-one table-one shadow-two table-two : List ℕ} where
   pub grant-call-only : GrantCall session shadow table n one shadow-one table-one
       → GrantCall session shadow table n two shadow-two table-two
       → (one ≡ two) × (shadow-one ≡ shadow-two) × (table-one ≡ table-two)
@@ -25,12 +26,12 @@ module _ {session : Session} {shadow table : List ℕ} {n : ℕ} {one two : Answ
       → (one ≡ two) × (shadow-one ≡ shadow-two) × (table-one ≡ table-two)
   release-call-only a b = (a .answer ∙ sym (b .answer), a .shadow ∙ sym (b .shadow), a .table ∙ sym (b .table))
 
-module _ {session : Session} {shadow table : List ℕ} {address bytes : ℕ} {one two : Answer} where
+module _ {session : Session} {shadow table : List ℕ} {address bytes : ℕ} {one two : CallAnswer} where
   pub access-call-only : AccessCall session shadow table address bytes one
       → AccessCall session shadow table address bytes two → one ≡ two
   access-call-only a b = a .answer ∙ sym (b .answer)
 
-module _ {session : Session} {one two : Answer} where
+module _ {session : Session} {one two : CallAnswer} where
   pub unfinished-call-only : UnfinishedCall session one → UnfinishedCall session two → one ≡ two
   unfinished-call-only a b = a .answer ∙ sym (b .answer)
 

@@ -8,12 +8,13 @@ use mathlib.Core.List.{List, [], _∷_}
 use lib.ListN.{length, take}
 use borrow.Author.Tests.{lt-ltb, le-ltb}
 use Rattle.rules.specs.declared.Session.{Session}
-use Rattle.rules.specs.declared.Answer.{Answer}
-use Rattle.rules.specs.declared.Answer.the-variants.{Done, BadSession}
+use Rattle.rules.specs.declared.Answer.the-variants.{Done}
+use Rattle.rules.specs.declared.CallAnswer.{CallAnswer}
+use Rattle.rules.specs.declared.CallAnswer.the-variants.{Answered, BadSession}
 use Rattle.rules.specs.declared.Opened.{Opened}
 use Rattle.rules.specs.declared.Fed.{Fed}
 use Rattle.rules.specs.Limits.{too-long, line-feed, answer-bytes}
-use Rattle.rules.specs.Answers.{status, in-numbers}
+use Rattle.rules.specs.Answers.{status, in-numbers, call-status, call-in-numbers}
 use Rattle.rules.specs.Release.{Pool}
 use Rattle.rules.specs.Feed.{State, act-line, finish, run, run-nil, run-cons, taken, taken-nil, taken-answered, taken-stops}
 use Rattle.rules.specs.Watcher.{state-of, watcher, pool-of}
@@ -24,10 +25,10 @@ use Rattle.rules.proofs.Watcher.{finish-refused}
 use Rattle.rules.proofs.Calls.{open-refused, within-true, grant-call-refused, release-call-refused, unfinished-24, unfinished-done, feed-24, feed-done}
 use Rattle.watcher.specs.Calls.{OpenCall, GrantCall, ReleaseCall, UnfinishedCall, FeedCall}
 
-done-is : {m n : ℕ} → Path Answer (Done m) (Done n) → m ≡ n
+done-is : {m n : ℕ} → Path CallAnswer (Answered (Done m)) (Answered (Done n)) → m ≡ n
 done-is e = cc
 
-done-not : {m : ℕ} → Path Answer (Done m) BadSession → ⊥
+done-not : {m : ℕ} → Path CallAnswer (Answered (Done m)) BadSession → ⊥
 done-not e = let z : _≡_ {A = ℕ} 0 1 = cc in omega arith
 
 -- 21, 22, 23
@@ -40,24 +41,24 @@ module _ {shadow table : List ℕ} {R Q : ℕ} {r : Opened} {shadow-after table-
       (ap (λ q. q .session) (o .given) ∙ kept .0, o .shadow ∙ kept .1, o .table ∙ kept .2)
 
 -- 05, 06 and 24 of a grant; 07, 08 and 24 of a release
-module _ {session : Session} {shadow table : List ℕ} {n : ℕ} {r : Answer} {shadow-after table-after : List ℕ} where
-  pub grant-refused-keeps : GrantCall session shadow table n r shadow-after table-after → status r ≢ 0
+module _ {session : Session} {shadow table : List ℕ} {n : ℕ} {r : CallAnswer} {shadow-after table-after : List ℕ} where
+  pub grant-refused-keeps : GrantCall session shadow table n r shadow-after table-after → call-status r ≢ 0
       → (shadow-after ≡ shadow) × (table-after ≡ table)
   grant-refused-keeps g refused =
       let kept : (grant-call session shadow table n .shadow ≡ shadow) × (grant-call session shadow table n .table ≡ table) =
-      grant-call-refused session shadow table n (λ e. refused (ap status (g .answer) ∙ e)) in
+      grant-call-refused session shadow table n (λ e. refused (ap call-status (g .answer) ∙ e)) in
       (g .shadow ∙ kept .0, g .table ∙ kept .1)
 
-  pub release-refused-keeps : ReleaseCall session shadow table n r shadow-after table-after → status r ≢ 0
+  pub release-refused-keeps : ReleaseCall session shadow table n r shadow-after table-after → call-status r ≢ 0
       → (shadow-after ≡ shadow) × (table-after ≡ table)
   release-refused-keeps g refused =
       let kept : (release-call session shadow table n .shadow ≡ shadow) × (release-call session shadow table n .table ≡ table) =
-      release-call-refused session shadow table n (λ e. refused (ap status (g .answer) ∙ e)) in
+      release-call-refused session shadow table n (λ e. refused (ap call-status (g .answer) ∙ e)) in
       (g .shadow ∙ kept .0, g .table ∙ kept .1)
 
 -- a length that is answered is 0 to 19
 module _ {session : Session} {n : ℕ} where
-  pub asked-length : UnfinishedCall session (Done n) → n ≤ too-long
+  pub asked-length : UnfinishedCall session (Answered (Done n)) → n ≤ too-long
   asked-length asks =
       by-test (within-limits session)
       (λ within.
@@ -73,7 +74,7 @@ module _ {session : Session} {shadow table piece room : List ℕ} {r : Fed} {sha
       × (shadow-after ≡ shadow)
       × (table-after ≡ table)
       × (room-after ≡ room)
-  unfolding status in-numbers
+  unfolding call-status call-in-numbers in-numbers
   feed-refused-keeps f refused =
       by-test (fits-lent session shadow table)
       (λ fits. absurd (refused (ap (λ q. q .status) (f .given) ∙ ap (λ q. q .given .status) (feed-done watcher session (pool-of shadow table) piece room fits))))

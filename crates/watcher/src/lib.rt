@@ -2,22 +2,24 @@
 // answered 24, and every other input is judged by the rules. The session goes in by value and comes back by value.
 use blocks::rows;
 use rules::Answer;
+use rules::CallAnswer;
 use rules::Fed;
 use rules::Opened;
+use rules::OpeningAnswer;
 use rules::Session;
 use rules::limits::REDZONE_BYTE;
 use rules::limits::ROW_NUMBERS;
 ghost use mathlib.Core.Path.{_≡_};
-ghost use Rattle.rules.specs.Answers.{status};
+ghost use Rattle.rules.specs.Answers.{opening-status};
 ghost use Rattle.rules.specs.Calls.{closed};
 ghost use Rattle.watcher.specs.Calls.{OpenCall, GrantCall, ReleaseCall, AccessCall, UnfinishedCall, FeedCall};
 
-fn not_opened(answer: Answer) -> Opened
-    ensures { λ r. ⌜ r ≡ record { session = closed; status = status answer } ⌝ }
+fn not_opened(answer: OpeningAnswer) -> Opened
+    ensures { λ r. ⌜ r ≡ record { session = closed; status = opening-status answer } ⌝ }
 {
     Opened {
         session: session::closed(),
-        status: answers::status_of(answer),
+        status: answers::opening_status_of(answer),
     }
 }
 
@@ -30,65 +32,71 @@ pub fn open(shadow: &mut [u8], table: &mut [u32], redzone: usize, quarantine: u3
     let granules = shadow.len();
     let numbers = table.len();
     if !session::granules_within(granules) {
-        return not_opened(Answer::BadShadowLength);
+        return not_opened(OpeningAnswer::BadShadowLength);
     }
     if !session::redzone_within(redzone) {
-        return not_opened(Answer::BadRedzone);
+        return not_opened(OpeningAnswer::BadRedzone);
     }
     if !session::table_length(numbers) {
-        return not_opened(Answer::BadTableLength);
+        return not_opened(OpeningAnswer::BadTableLength);
     }
     paint::cover(shadow, REDZONE_BYTE);
     rows::clear(table);
-    let done = Answer::Done { value: 0 };
     Opened {
         session: session::fresh(granules, numbers / ROW_NUMBERS, redzone, quarantine),
-        status: answers::status_of(done),
+        status: answers::opening_status_of(OpeningAnswer::Open),
     }
 }
 
 // As the frame 01 answers.
-pub fn grant(session: Session, shadow: &mut [u8], table: &mut [u32], size: u32) -> Answer
+pub fn grant(session: Session, shadow: &mut [u8], table: &mut [u32], size: u32) -> CallAnswer
     ensures { λ r. ⌜ GrantCall session (now (shadow .entry)) (now (table .entry)) size
         r (now (shadow .exit)) (now (table .exit)) ⌝ }
 {
     if !session::fits_lent(session, shadow, table) {
-        return Answer::BadSession;
+        return CallAnswer::BadSession;
     }
-    pool::grant(session, shadow, table, size)
+    CallAnswer::Answered(pool::grant(session, shadow, table, size))
 }
 
 // As the frame 02 answers.
-pub fn release(session: Session, shadow: &mut [u8], table: &mut [u32], address: u32) -> Answer
+pub fn release(session: Session, shadow: &mut [u8], table: &mut [u32], address: u32) -> CallAnswer
     ensures { λ r. ⌜ ReleaseCall session (now (shadow .entry)) (now (table .entry)) address
         r (now (shadow .exit)) (now (table .exit)) ⌝ }
 {
     if !session::fits_lent(session, shadow, table) {
-        return Answer::BadSession;
+        return CallAnswer::BadSession;
     }
-    pool::release(session, shadow, table, address)
+    CallAnswer::Answered(pool::release(session, shadow, table, address))
 }
 
 // As the frames 03 and 04 answer: reads and writes are judged alike.
-pub fn access(session: Session, shadow: &[u8], table: &[u32], address: u32, length: u32) -> Answer
+pub fn access(
+    session: Session,
+    shadow: &[u8],
+    table: &[u32],
+    address: u32,
+    length: u32,
+) -> CallAnswer
     ensures { λ r. ⌜ AccessCall session (now (shadow .entry)) (now (table .entry)) address length r ⌝ }
 {
     if !session::fits_lent(session, shadow, table) {
-        return Answer::BadSession;
+        return CallAnswer::BadSession;
     }
-    pool::access(shadow, address, length)
+    CallAnswer::Answered(pool::access(shadow, address, length))
 }
 
 // The length of the unfinished line, 0 to 19.
-pub fn unfinished(session: Session) -> Answer
+pub fn unfinished(session: Session) -> CallAnswer
     ensures { λ r. ⌜ UnfinishedCall session r ⌝ }
 {
     if !session::within_limits(session) {
-        return Answer::BadSession;
+        return CallAnswer::BadSession;
     }
-    Answer::Done {
+    let length = Answer::Done {
         value: session.unfinished as u32,
-    }
+    };
+    CallAnswer::Answered(length)
 }
 
 // Bytes are taken in order until the piece ends, or the next byte is a line feed and fewer than 13 bytes of room are
@@ -107,7 +115,7 @@ pub fn feed(
     if !session::fits_lent(session, shadow, table) {
         return Fed {
             session,
-            status: answers::status_of(Answer::BadSession),
+            status: answers::call_status_of(CallAnswer::BadSession),
             taken: 0,
             wrote: 0,
         };

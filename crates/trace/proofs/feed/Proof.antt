@@ -17,8 +17,8 @@ Inv-loop shadow₀ table₀ piece room₀ status current₀ taken₀ wrote₀ sh
 abbrev μ-loop : tie.MeasureT-loop
 μ-loop shadow₀ table₀ piece room₀ status current₀ taken₀ wrote₀ shadow table room current taken wrote = length piece - taken
 
-status-of-requires : tie.Need-status-of-requires Inv-loop μ-loop
-status-of-requires c κs = search needs
+call-status-of-requires : tie.Need-call-status-of-requires Inv-loop μ-loop
+call-status-of-requires c κs = search needs
 
 loop-holds : tie.Need-loop-holds Inv-loop μ-loop
 loop-holds c = feeding-start _ _ _ (c .before .before .before .before .before .pre)
@@ -90,7 +90,7 @@ same-length-3 c = feeding-room (c .before .loop .inv)
 returns : tie.Need-returns Inv-loop μ-loop
 returns c =
     let head = c .before in
-    feeding-end (head .loop .inv) _ (head .before .status-of .ensures) (omega arith)
+    feeding-end (head .loop .inv) _ (head .before .call-status-of .ensures) (omega arith)
 
 same-length-4 : tie.Need-same-length-4 Inv-loop μ-loop
 same-length-4 c = c .before .before .before .before .loop .inv .shadow-length
@@ -104,7 +104,8 @@ same-length-6 c = feeding-room (c .before .before .before .before .loop .inv)
 returns-2 : tie.Need-returns-2 Inv-loop μ-loop
 returns-2 c =
     let head = c .before .before .before .before in
-    feeding-full (head .loop .inv) _ (head .before .status-of .ensures) (omega arith) (c .before .if1 .left) (omega (arith, feeding-room (head .loop .inv)))
+    feeding-full (head .loop .inv) _ (head .before .call-status-of .ensures) (omega arith) (c .before .if1 .left)
+    (omega (arith, feeding-room (head .loop .inv)))
 
 pub feed-spec : {M : Type 1} → statement M
 feed-spec =
@@ -112,7 +113,7 @@ feed-spec =
     (tie.spec
     Inv-loop
     μ-loop
-    status-of-requires
+    call-status-of-requires
     loop-holds
     shared-slice-read-byte
     lengthened-requires

@@ -1,7 +1,8 @@
 -- `watcher::access` meets its contract: 24 where the session does not fit what is lent, else as its frames do. Assumes nothing.
-use mathlib.Core.Path.{sym, _∙_}
+use mathlib.Core.Path.{sym, ap, _∙_}
 use denote.Ref.{now}
 use borrow.Author.Needs.{needs}
+use Rattle.rules.specs.declared.CallAnswer.the-variants.{Answered}
 use Rattle.rules.specs.Calls.{access-call}
 use Rattle.rules.proofs.Tests.{if-true, denied, passed}
 use Rattle.rules.proofs.Calls.{lent-true, lent-granules, access-24}
@@ -26,7 +27,7 @@ unfolding access-call
 returns-2 c =
     let test = c .before in
     let passes = passed (test .before .fits-lent .ensures) (test .if1 .left) in
-    record { answer = c .access .ensures ∙ sym (if-true _ _ passes) }
+    record { answer = ap Answered (c .access .ensures) ∙ sym (if-true _ _ passes) }
 
 pub access-spec : {M : Type 1} → statement M
 access-spec = tie.close (tie.spec fits-lent-requires returns access-requires returns-2)

@@ -5,7 +5,7 @@ use denote.Ref.{now}
 use borrow.Author.Needs.{needs}
 use Rattle.rules.specs.declared.Session.{Session}
 use Rattle.rules.specs.declared.Fed.{Fed}
-use Rattle.rules.specs.Answers.{status, in-numbers}
+use Rattle.rules.specs.Answers.{call-status, call-in-numbers}
 use Rattle.rules.specs.Watcher.{watcher, pool-of}
 use Rattle.rules.proofs.Tests.{denied, passed}
 use Rattle.rules.proofs.Calls.{lent-true, feed-24, feed-done}
@@ -21,8 +21,8 @@ nothing session number = record { session = session; status = number; taken = 0;
 fits-lent-requires : tie.Need-fits-lent-requires
 fits-lent-requires c κs = search needs
 
-status-of-requires : tie.Need-status-of-requires
-status-of-requires c κs = search needs
+call-status-of-requires : tie.Need-call-status-of-requires
+call-status-of-requires c κs = search needs
 
 same-length : tie.Need-same-length
 same-length c = search needs
@@ -31,7 +31,7 @@ same-length-2 : tie.Need-same-length-2
 same-length-2 c = search needs
 
 returns : tie.Need-returns
-unfolding status in-numbers
+unfolding call-status call-in-numbers
 returns c =
     let test = c .before in
     let start = test .before .before .before .before .before .before .before .before in
@@ -40,7 +40,7 @@ returns c =
     let room = now (start .args .room) in
     let fails = denied (test .before .fits-lent .ensures) (test .if1 .taken) in
     feed-call-is
-    (ap (λ number. fed (nothing (start .args .session) number) shadow table room) (c .status-of .ensures)
+    (ap (λ number. fed (nothing (start .args .session) number) shadow table room) (c .call-status-of .ensures)
     ∙ sym (feed-24 watcher (start .args .session) (pool-of shadow table) (now (start .args .piece)) room fails))
 
 feed-requires : tie.Need-feed-requires
@@ -69,7 +69,7 @@ feed-spec =
     tie.close
     (tie.spec
     fits-lent-requires
-    status-of-requires
+    call-status-of-requires
     same-length
     same-length-2
     returns

@@ -1,8 +1,8 @@
 -- `watcher::grant` meets its contract: 24 where the session does not fit what is lent, else as its frame does. Assumes nothing.
-use mathlib.Core.Path.{sym, _∙_}
+use mathlib.Core.Path.{sym, ap, _∙_}
 use denote.Ref.{now}
 use borrow.Author.Needs.{needs}
-use Rattle.rules.specs.Calls.{grant-call}
+use Rattle.rules.specs.Calls.{as-line, grant-call}
 use Rattle.rules.proofs.Tests.{if-true, denied, passed}
 use Rattle.rules.proofs.Calls.{lent-true, grant-24}
 use Rattle.watcher.proofs.Calls.{grant-call-is}
@@ -28,7 +28,7 @@ returns-2 c =
     let done = c .before .before .before .before in
     let test = done .before .before .before in
     let passes = passed (test .before .fits-lent .ensures) (test .if1 .left) in
-    grant-call-is (done .grant .ensures ∙ sym (if-true _ _ passes))
+    grant-call-is (ap as-line (done .grant .ensures) ∙ sym (if-true _ _ passes))
 
 pub grant-spec : {M : Type 1} → statement M
 grant-spec =

@@ -13,11 +13,11 @@ opened session status = record { session = session; status = status }
 closed-requires : tie.Need-closed-requires
 closed-requires c κs = search needs
 
-status-of-requires : tie.Need-status-of-requires
-status-of-requires c κs = search needs
+opening-status-of-requires : tie.Need-opening-status-of-requires
+opening-status-of-requires c κs = search needs
 
 returns : tie.Need-returns
-returns c = ap₂ opened (c .before .closed .ensures) (c .status-of .ensures)
+returns c = ap₂ opened (c .before .closed .ensures) (c .opening-status-of .ensures)
 
 pub not-opened-spec : {M : Type 1} → statement M
-not-opened-spec = tie.close (tie.spec closed-requires status-of-requires returns)
+not-opened-spec = tie.close (tie.spec closed-requires opening-status-of-requires returns)

@@ -94,8 +94,8 @@ clear-requires c κs = search needs
 fresh-requires : tie.Need-fresh-requires
 fresh-requires c κs = search needs
 
-status-of-requires : tie.Need-status-of-requires
-status-of-requires c κs = search needs
+opening-status-of-requires : tie.Need-opening-status-of-requires
+opening-status-of-requires c κs = search needs
 
 same-length : tie.Need-same-length
 same-length c = search needs
@@ -116,9 +116,13 @@ returns-4 c =
     let shadow = covered .cover .last .0 in
     let table = cleared .clear .last .0 in
     open-call-is
-    (ap₂ (λ session status. opened (record { session = session; status = status }) shadow table) (made .fresh .ensures) (c .status-of .ensures)
-    ∙ ap₂ (opened (opened-with (shadow-of at) (table-of at) (start .args .redzone) (start .args .quarantine) .given)) (covered .cover .ensures) (cleared .clear .ensures)
-    ∙ sym (open-done (shadow-of at) (table-of at) (start .args .redzone) (start .args .quarantine) (granules-pass one) (redzone-passes two) (table-passes three)))
+    (ap₂ (λ session status. opened (record { session = session; status = status }) shadow table)
+    (made .fresh .ensures) (c .opening-status-of .ensures)
+    ∙ ap₂ (opened (opened-with (shadow-of at) (table-of at) (start .args .redzone) (start .args .quarantine) .given))
+    (covered .cover .ensures) (cleared .clear .ensures)
+    ∙ sym
+    (open-done (shadow-of at) (table-of at) (start .args .redzone) (start .args .quarantine)
+    (granules-pass one) (redzone-passes two) (table-passes three)))
 
 pub open-spec : {M : Type 1} → statement M
 open-spec =
@@ -136,7 +140,7 @@ open-spec =
     cover-requires
     clear-requires
     fresh-requires
-    status-of-requires
+    opening-status-of-requires
     same-length
     same-length-2
     returns-4)

@@ -1,8 +1,8 @@
 -- `watcher::release` meets its contract: 24 where the session does not fit what is lent, else as its frame does. Assumes nothing.
-use mathlib.Core.Path.{sym, _∙_}
+use mathlib.Core.Path.{sym, ap, _∙_}
 use denote.Ref.{now}
 use borrow.Author.Needs.{needs}
-use Rattle.rules.specs.Calls.{release-call}
+use Rattle.rules.specs.Calls.{as-line, release-call}
 use Rattle.rules.proofs.Tests.{if-true, denied, passed}
 use Rattle.rules.proofs.Calls.{lent-true, release-24}
 use Rattle.watcher.proofs.Calls.{release-call-is}
@@ -28,7 +28,7 @@ returns-2 c =
     let done = c .before .before .before .before in
     let test = done .before .before .before in
     let passes = passed (test .before .fits-lent .ensures) (test .if1 .left) in
-    release-call-is (done .release .ensures ∙ sym (if-true _ _ passes))
+    release-call-is (ap as-line (done .release .ensures) ∙ sym (if-true _ _ passes))
 
 pub release-spec : {M : Type 1} → statement M
 release-spec =

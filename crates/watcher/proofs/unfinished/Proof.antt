@@ -15,8 +15,8 @@ returns c =
     let session = c .before .before .args .session in
     record { answer = sym (unfinished-24 session (denied (c .before .within-limits .ensures) (c .if1 .taken))) }
 
-cast-t4 : tie.Need-cast-t4
-cast-t4 c =
+cast-t5 : tie.Need-cast-t5
+cast-t5 c =
     let test = c .before in
     let session = test .before .before .args .session in
     record { fits = omega (arith, within-true session (passed (test .before .within-limits .ensures) (test .if1 .left)) .unfinished) }
@@ -28,4 +28,4 @@ returns-2 c =
     record { answer = sym (unfinished-done session (passed (test .before .within-limits .ensures) (test .if1 .left))) }
 
 pub unfinished-spec : {M : Type 1} → statement M
-unfinished-spec = tie.close (tie.spec within-limits-requires returns cast-t4 returns-2)
+unfinished-spec = tie.close (tie.spec within-limits-requires returns cast-t5 returns-2)
