@@ -1,15 +1,15 @@
 -- The invariant in other words: what stands agrees with its history, and what agrees stands. Assumes nothing.
-use Prim.Native.Nat.{ℕ, zero, suc, _+_, _*_, _≤_, _<_, _-_}
+use Prim.Native.Nat.{ℕ, _+_, _*_, _≤_, _<_, _-_}
 use native.Mathlib.Omega.{arith}
 use mathlib.Core.Path.{_≡_, refl, sym, ap, subst, _∙_}
 use mathlib.Core.Logic.{_≢_, _⊎_, inl, inr, ⊎-elim}
 use mathlib.Core.Bool.{true, false}
 use mathlib.Core.List.{List, _++_, Memᴰ·cast}
 use lib.ListN.{length, getD, length-append}
-use Rattle.rules.specs.Limits.{granule, row-numbers, live, quarantined}
-use Rattle.rules.specs.Table.{column, rows, start, size, state, row-of, zero-row}
+use Rattle.rules.specs.Limits.{granule, live, quarantined}
+use Rattle.rules.specs.Table.{rows, start, size, state}
 use Rattle.rules.specs.Grant.{granules, granted}
-use Rattle.rules.proofs.Table.{row-of-zeros}
+use Rattle.rules.proofs.Table.{row-of-zeros, zeros-of-row}
 use Rattle.rules.proofs.Grant.{granules-enough}
 use Rattle.promises.specs.History.{Block, has-byte, History, latest, held}
 use Rattle.promises.specs.Rows.{past, Apart, HeldRow, of-row, in-use, drawn-byte, drawn}
@@ -109,14 +109,6 @@ module _ {S R Q : ℕ} {shadow table : List ℕ} {h : History} (stands : Stands 
       }
 
 -- ---- what agrees stands
-
--- the numbers of a row that is all zeros
-zeros-of-row : (table : List ℕ) (i : ℕ) → row-of table i ≡ zero-row → (k : ℕ) → k < row-numbers → column k table i ≡ 0
-zeros-of-row table i e zero below = ap (λ row. row .start) e
-zeros-of-row table i e (suc zero) below = ap (λ row. row .size) e
-zeros-of-row table i e (suc (suc zero)) below = ap (λ row. row .state) e
-zeros-of-row table i e (suc (suc (suc zero))) below = ap (λ row. row .turn) e
-zeros-of-row table i e (suc (suc (suc (suc k)))) below = absurd (omega arith)
 
 pub agrees-stand : {S R Q : ℕ} {shadow table : List ℕ} {h : History} → 0 < R → AgreesWith S R Q h shadow table
     → Stands S R Q shadow table h

@@ -118,6 +118,18 @@ pub row-of-zeros : (table : List ℕ) (i : ℕ) → ((k : ℕ) → k < row-numbe
     → row-of table i ≡ zero-row
 row-of-zeros table i zeros = same-by (λ k. column k table i) (λ _. 0) zeros
 
+-- and its numbers are the columns
+pub numbers-of-row : (table : List ℕ) (i k : ℕ) → k < row-numbers → column k table i ≡ getD (numbers (row-of table i)) k 0
+numbers-of-row table i zero in-row = refl
+numbers-of-row table i (suc zero) in-row = refl
+numbers-of-row table i (suc (suc zero)) in-row = refl
+numbers-of-row table i (suc (suc (suc zero))) in-row = refl
+numbers-of-row table i (suc (suc (suc (suc k)))) in-row = absurd (omega arith)
+
+pub zeros-of-row : (table : List ℕ) (i : ℕ) → row-of table i ≡ zero-row → (k : ℕ) → k < row-numbers → column k table i ≡ 0
+zeros-of-row table i is-zero k in-row =
+    numbers-of-row table i k in-row ∙ ap (λ row. getD (numbers row) k 0) is-zero ∙ zero-row-zero k
+
 -- the one that was put
 pub row-of-put-row : (table : List ℕ) (i : ℕ) (row : Row) → i < rows table → row-of (put-row table i row) i ≡ row
 row-of-put-row table i row below =
