@@ -1,5 +1,5 @@
--- What one pass finds in one row more: a live row may be the first that starts at the address, a quarantined one counts, weighs and
--- may be the oldest, and a row in another state adds nothing. Assumes nothing.
+-- What one pass finds in one row more: a live row may be the first that starts at the address, a quarantined one
+-- counts, weighs and may be the oldest, and a row in another state adds nothing. Assumes nothing.
 use Prim.Native.Nat.{ℕ, suc, _+_, _*_, _^_, _≤_, _<_}
 use native.Mathlib.Omega.{arith}
 use native.Mathlib.Numerals.{add-one}
@@ -40,7 +40,8 @@ weights-fit {R} {table} n i w v lent in-rows fits so-far one-more =
     omega (arith, weight-most R (size table i) (lent .near) (fits i), rows-most lent)
 
 -- a search over one number more
-pub one-more-answered : (test : ℕ → Bool) (n : ℕ) → answered (lowest test (suc n) 0) ≡ first-of (answered (lowest test n 0)) (test n) n
+pub one-more-answered : (test : ℕ → Bool) (n : ℕ) → answered (lowest test (suc n) 0)
+    ≡ first-of (answered (lowest test n 0)) (test n) n
 one-more-answered test n =
     by-found (lowest test n 0)
     (λ k e. ap answered (one-more-found test n k e) ∙ sym (ap (λ o. first-of (answered o) (test n) n) e))
@@ -63,15 +64,18 @@ first-of-false (One k) n = refl
 first-of-false Nothing n = refl
 
 -- a test of the state and the start, where the state is known
-at-state : (table : List ℕ) (a i wanted : ℕ) → state table i ≡ wanted → (eqb (state table i) wanted && starts-at table a i) ≡ starts-at table a i
+at-state : (table : List ℕ) (a i wanted : ℕ) → state table i ≡ wanted
+    → (eqb (state table i) wanted && starts-at table a i) ≡ starts-at table a i
 at-state table a i wanted is = ap (λ t. t && starts-at table a i) (eq-eqb (state table i) wanted is)
 
-not-at-state : (table : List ℕ) (a i wanted : ℕ) → state table i ≢ wanted → (eqb (state table i) wanted && starts-at table a i) ≡ false
+not-at-state : (table : List ℕ) (a i wanted : ℕ) → state table i ≢ wanted
+    → (eqb (state table i) wanted && starts-at table a i) ≡ false
 not-at-state table a i wanted is-not = ap (λ t. t && starts-at table a i) (ne-eqb (state table i) wanted is-not)
 
 -- two findings with the same five fields
 abbrev seen : Found → Bool → ℕ → ℕ → Found → Seen
-seen live again count weight oldest = record { live = live; again = again; count = count; weight = weight; oldest = oldest }
+seen live again count weight oldest =
+    record { live = live; again = again; count = count; weight = weight; oldest = oldest }
 
 same-seen : {l l′ : Found} {g g′ : Bool} {n n′ w w′ : ℕ} {o o′ : Found} → l ≡ l′ → g ≡ g′ → n ≡ n′ → w ≡ w′ → o ≡ o′
     → seen l g n w o ≡ seen l′ g′ n′ w′ o′
@@ -108,11 +112,14 @@ module _ (R : ℕ) (table : List ℕ) (a i : ℕ) (so-far : Seen) (before : so-f
       ∙ or-false (found (lowest test i 0)))
 
   -- a sum over quarantined rows
-  one-more-sum : (f : ℕ → ℕ) (m : ℕ) → if-quarantined table f i ≡ m → total (if-quarantined table f) (i + 1) ≡ total (if-quarantined table f) i + m
+  one-more-sum : (f : ℕ → ℕ) (m : ℕ) → if-quarantined table f i ≡ m → total (if-quarantined table f) (i + 1)
+      ≡ total (if-quarantined table f) i + m
   one-more-sum f m own =
-      ap (total (if-quarantined table f)) (add-one i) ∙ total-suc (if-quarantined table f) i ∙ ap (λ k. total (if-quarantined table f) i + k) own
+      ap (total (if-quarantined table f)) (add-one i) ∙ total-suc (if-quarantined table f) i
+      ∙ ap (λ k. total (if-quarantined table f) i + k) own
 
-  same-sum : (f : ℕ → ℕ) → state table i ≢ quarantined → total (if-quarantined table f) i ≡ total (if-quarantined table f) (i + 1)
+  same-sum : (f : ℕ → ℕ) → state table i ≢ quarantined → total (if-quarantined table f) i
+      ≡ total (if-quarantined table f) (i + 1)
   same-sum f is-not =
       sym
       (one-more-sum f 0 (if-quarantined-no table f i (ne-eqb (state table i) quarantined is-not))
@@ -134,7 +141,12 @@ module _ (R : ℕ) (table : List ℕ) (a i : ℕ) (so-far : Seen) (before : so-f
   pub weight-most-so-far : R ≤ most-redzone → ((j : ℕ) → size table j < 2 ^ 32) → so-far .weight ≤ i * 2 ^ 33
   unfolding surveyed
   weight-most-so-far near fits =
-      omega (arith, ap (λ s. s .weight) before, quarantined-most (weight R) (2 ^ 33) table i (λ j below. weight-most R (size table j) near (fits j)))
+      omega (
+        arith,
+        ap (λ s. s .weight) before,
+        quarantined-most (weight R) (2 ^ 33) table i
+            (λ j below. weight-most R (size table j) near (fits j)),
+      )
 
   -- a live row
   pub surveyed-live : {first : Found} → state table i ≡ live → first ≡ first-of (so-far .live) (starts-at table a i) i
@@ -157,7 +169,8 @@ module _ (R : ℕ) (table : List ℕ) (a i : ℕ) (so-far : Seen) (before : so-f
 
   -- a quarantined row
   pub surveyed-quarantined : {again : Bool} {count weight′ : ℕ} {first : Found} → state table i ≡ quarantined
-      → again ≡ so-far .again || starts-at table a i → count ≡ so-far .count + 1 → weight′ ≡ so-far .weight + weight R (size table i)
+      → again ≡ so-far .again || starts-at table a i → count ≡ so-far .count + 1 → weight′
+      ≡ so-far .weight + weight R (size table i)
       → first ≡ answered (oldest table (i + 1))
       → seen (so-far .live) again count weight′ first ≡ surveyed R table a (i + 1)
   unfolding surveyed
@@ -177,7 +190,8 @@ module _ (R : ℕ) (table : List ℕ) (a i : ℕ) (so-far : Seen) (before : so-f
       ∙ sym (one-more-sum (λ _. 1) 1 (if-quarantined-yes table (λ _. 1) i held)))
       (weight-is
       ∙ ap (λ s. s .weight + weight R (size table i)) before
-      ∙ sym (one-more-sum (λ j. weight R (size table j)) (weight R (size table i)) (if-quarantined-yes table (λ j. weight R (size table j)) i held)))
+      ∙ sym (one-more-sum (λ j. weight R (size table j)) (weight R (size table i))
+      (if-quarantined-yes table (λ j. weight R (size table j)) i held)))
       oldest-is
 
   -- a row in another state

@@ -23,7 +23,8 @@ pub record TableLent (R : ℕ) (table : List ℕ) : Type 0 where
   pub most : length table ≤ row-numbers * most-rows
   pub near : R ≤ most-redzone
 
--- the lowest live row that starts at a, whether a quarantined one does, how many are quarantined, what they weigh, the one to evict
+-- the lowest live row that starts at a, whether a quarantined one does, how many are quarantined, what they weigh, the
+-- one to evict
 unfoldable pub survey : ℕ → List ℕ → ℕ → Seen
 survey R table a = record {
   live = answered (row-at live table a);

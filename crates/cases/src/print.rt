@@ -1,5 +1,5 @@
-// Printing what a public call answered and left: answers as the report writes them, a shadow and a table as runs of equal
-// bytes and rows ("2*fa 00 05" is fa fa 00 05), so that the longest buffer is a few words.
+// Printing what a public call answered and left: answers as the report writes them, a shadow and a table as runs of
+// equal bytes and rows ("2*fa 00 05" is fa fa 00 05), so that the longest buffer is a few words.
 use crate::show;
 use rules::CallAnswer;
 use rules::Fed;

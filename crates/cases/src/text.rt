@@ -1,6 +1,6 @@
-// The text of the cases, which a program of cases reads: a line is a word that says what is tried, then words with one space
-// between them, what is given and what the paper says. Numbers are in hex, "-" is the number of nothing found, and a table is
-// four words, a row a word and a letter a number.
+// The text of the cases, which a program of cases reads: a line is a word that says what is tried, then words with one
+// space between them, what is given and what the paper says. Numbers are in hex, "-" is the number of nothing found,
+// and a table is four words, a row a word and a letter a number.
 use crate::show;
 ghost use Prim.Native.Nat.{_≤_};
 ghost use lib.ListN.{length};
@@ -113,8 +113,8 @@ pub fn bytes_of(line: &[u8], word: usize) -> [u8; 16] {
     bytes
 }
 
-// Whether the line is a case. One that begins with ":" has a name to be printed, an empty one ends the line of its dots, and one
-// that begins with "#" is for the reader.
+// Whether the line is a case. One that begins with ":" has a name to be printed, an empty one ends the line of its
+// dots, and one that begins with "#" is for the reader.
 pub fn is_case(line: &[u8]) -> bool {
     if line.len() == 0 {
         show::end();

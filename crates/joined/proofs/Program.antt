@@ -1,4 +1,5 @@
--- Feeds in a row come to the chain of the rules, whichever call each of them was; and from any state that chain can be had. Assumes nothing.
+-- Feeds in a row come to the chain of the rules, whichever call each of them was; and from any state that chain can be
+-- had. Assumes nothing.
 use Prim.Native.Nat.{ℕ}
 use mathlib.Core.Path.{_≡_, refl, ap, _∙_}
 use mathlib.Core.Logic.{inl, inr}
@@ -16,7 +17,8 @@ use Rattle.lent.proofs.Calls.{by-value}
 use Rattle.joined.specs.Program.{FedOnce, FedAll}
 
 -- one feed is the rule's, whichever call it was
-once-is : {st : State Pool} {piece room : List ℕ} {fed : Fed} {pool : Pool} {room-after : List ℕ} → FedOnce st piece room fed pool room-after
+once-is : {st : State Pool} {piece room : List ℕ} {fed : Fed} {pool : Pool} {room-after : List ℕ}
+    → FedOnce st piece room fed pool room-after
     → FeedCall (st .session) (st .pool .shadow) (st .pool .table) piece room fed (pool .shadow) (pool .table) room-after
 once-is (inl call) = call
 once-is (inr call) = by-value call
@@ -40,7 +42,8 @@ all-chain st text (call ∷ calls) end (fed, pool, room, rest, once, others, is)
     ∙ ap (goes-on text calls) (feed-call-whole (once-is {st = st} once))
 
 -- and there is always such an end
-pub chain-all : (st : State Pool) (text : List ℕ) (calls : List Call) → FedAll st text calls (chain watcher st text calls)
+pub chain-all : (st : State Pool) (text : List ℕ) (calls : List Call)
+    → FedAll st text calls (chain watcher st text calls)
 unfolding FedAll chain
 chain-all st text [] = refl
 chain-all st text (call ∷ calls) =

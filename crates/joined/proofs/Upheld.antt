@@ -1,5 +1,5 @@
--- From a program's calls to demand 3: its feeds are a chain of the rules, the chain runs the bytes that it took, and those
--- bytes from the program's opening are a replay, of which the demands are proved. Assumes nothing.
+-- From a program's calls to demand 3: its feeds are a chain of the rules, the chain runs the bytes that it took, and
+-- those bytes from the program's opening are a replay, of which the demands are proved. Assumes nothing.
 use Prim.Native.Nat.{ℕ}
 use mathlib.Core.Path.{_≡_, refl, sym, ap, ap₂, subst, _∙_}
 use mathlib.Core.List.{List, [], _∷_, _++_, append-nil}

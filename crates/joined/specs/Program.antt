@@ -1,5 +1,5 @@
--- A program that calls the watcher from C: an opening, and feeds in a row, each by value or in place. What it has is said by the contract of
--- each call, and by nothing else.
+-- A program that calls the watcher from C: an opening, and feeds in a row, each by value or in place. What it has is
+-- said by the contract of each call, and by nothing else.
 use Prim.Native.Nat.{ℕ}
 use mathlib.Core.Path.{_≡_}
 use mathlib.Core.Logic.{_⊎_}
@@ -13,8 +13,9 @@ use Rattle.promises.specs.Cutting.{Call, Chained}
 use Rattle.watcher.specs.Calls.{OpenCall, FeedCall}
 use Rattle.lent.specs.Calls.{counts-of, FeedInPlaceCall}
 
--- one feed, `kinkhost_feed` or `kinkhost_feed_in_place`: from a session and its pool, with a piece and a room, to the session and the counts (of
--- a feed in place, the session that lies behind the reference and the counts handed back), the pool and the room after it
+-- one feed, `kinkhost_feed` or `kinkhost_feed_in_place`: from a session and its pool, with a piece and a room, to the
+-- session and the counts (of a feed in place, the session that lies behind the reference and the counts handed back),
+-- the pool and the room after it
 abbrev pub FedOnce : State Pool → List ℕ → List ℕ → Fed → Pool → List ℕ → Type 0
 FedOnce st piece room fed pool room-after =
     FeedCall (st .session) (st .pool .shadow) (st .pool .table) piece room
@@ -22,8 +23,9 @@ FedOnce st piece room fed pool room-after =
     ⊎ FeedInPlaceCall (st .session) (st .pool .shadow) (st .pool .table) piece room
     (counts-of fed) (fed .session) (pool .shadow) (pool .table) room-after
 
--- feeds in a row: each is handed the session and the pool as the last one left them, and a piece that begins where the last one stopped
--- taking; what it wrote is the first part of its room. In the end: the last session and pool, the reports joined, and what is left of the text
+-- feeds in a row: each is handed the session and the pool as the last one left them, and a piece that begins where the
+-- last one stopped taking; what it wrote is the first part of its room. In the end: the last session and pool, the
+-- reports joined, and what is left of the text
 unfoldable pub FedAll : State Pool → List ℕ → List Call → Chained Pool → Type 0
 FedAll st text [] end = end ≡ record { ran = record { state = st; report = [] }; left = text }
 FedAll st text (call ∷ calls) end =
@@ -32,7 +34,8 @@ FedAll st text (call ∷ calls) end =
     × FedAll (record { session = fed .session; pool = pool }) (drop (fed .taken) text) calls rest
     × (end ≡ record { ran = after (take (fed .wrote) room) (rest .ran); left = rest .left })
 
--- a program: any buffers, R and Q, what `kinkhost_open` handed back and left, accepted; a text; its feeds, and what it has in the end
+-- a program: any buffers, R and Q, what `kinkhost_open` handed back and left, accepted; a text; its feeds, and what it
+-- has in the end
 pub record Program : Type 0 where
   pub shadow : List ℕ
   pub table : List ℕ

@@ -1,7 +1,8 @@
--- From a program's calls to demand 3, in one statement. Cut the trace anywhere, lend any room: report, shadow, table and
--- session are those of the rules over the whole text; a read or write is reported exactly when it touches a byte in no
--- block granted and not yet released; held blocks stay a redzone apart; nothing in quarantine is granted again. All is
--- said of what the program has in its hands: its text, the bytes that its feeds wrote, its session, shadow and table.
+-- From a program's calls to demand 3, in one statement. Cut the trace anywhere, lend any room: report, shadow, table
+-- and session are those of the rules over the whole text; a read or write is reported exactly when it touches a byte in
+-- no block granted and not yet released; held blocks stay a redzone apart; nothing in quarantine is granted again. All
+-- is said of what the program has in its hands: its text, the bytes that its feeds wrote, its session, shadow and
+-- table.
 use Prim.Native.Nat.{ℕ}
 use mathlib.Core.Path.{_≡_}
 use mathlib.Core.Bool.{true, false}
@@ -31,7 +32,8 @@ abbrev pub happened : List Exchange → History
 happened = heard-all nothing-yet
 
 abbrev pub in-quarantine : Program → List Exchange → List Block
-in-quarantine p before = latest (p .opened .session .redzone) (p .opened .session .quarantine) (happened before .released)
+in-quarantine p before =
+    latest (p .opened .session .redzone) (p .opened .session .quarantine) (happened before .released)
 
 pub record Upheld (p : Program) : Type 0 where
   -- the bytes that its feeds took are the first of its text, and all of it where none is left

@@ -8,7 +8,8 @@ use Rattle.rules.specs.declared.Session.{Session}
 use Rattle.rules.specs.declared.Reply.{Reply}
 use Rattle.kinkhost.specs.Calls.{GrantInNumbers, ReleaseInNumbers, AccessInNumbers, UnfinishedInNumbers}
 
-module _ {session : Session} {shadow table : List ℕ} {n : ℕ} {one two : Reply} {shadow-one table-one shadow-two table-two : List ℕ} where
+module _ {session : Session} {shadow table : List ℕ} {n : ℕ} {one two : Reply}
+    {shadow-one table-one shadow-two table-two : List ℕ} where
   pub grant-in-numbers-only : GrantInNumbers session shadow table n one shadow-one table-one
       → GrantInNumbers session shadow table n two shadow-two table-two
       → (one ≡ two) × (shadow-one ≡ shadow-two) × (table-one ≡ table-two)

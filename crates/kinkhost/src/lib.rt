@@ -1,5 +1,5 @@
-// The C interface: the public calls and the two maps under C names, an answer as its numbers, since an enum does not cross to
-// C. `include/kinkhost.h` declares them.
+// The C interface: the public calls and the two maps under C names, an answer as its numbers, since an enum does not
+// cross to C. `include/kinkhost.h` declares them.
 use rules::Counts;
 use rules::Fed;
 use rules::Mapped;

@@ -1,14 +1,14 @@
-// Every function below the public calls on both sides of each of its limits. The cases are the lines of the file `stdin`, with
-// what the paper says, worked by hand; a dot is a case that came out so.
+// Every function below the public calls on both sides of each of its limits. The cases are the lines of the file
+// `stdin`, with what the paper says, worked by hand; a dot is a case that came out so.
 mod answers_cases;
 mod blocks_cases;
 mod frames_cases;
 mod lines_cases;
 mod maps_cases;
 mod paint_cases;
+mod place_cases;
 mod range_cases;
 mod release_cases;
-mod room_cases;
 mod rows_cases;
 mod shadow_cases;
 

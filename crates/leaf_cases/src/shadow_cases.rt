@@ -1,7 +1,7 @@
 // A lent shadow: which function a case tries.
 use crate::paint_cases;
+use crate::place_cases;
 use crate::range_cases;
-use crate::room_cases;
 use cases::show;
 use cases::text;
 
@@ -24,16 +24,16 @@ pub fn one(line: &[u8]) {
 
 fn room_or_paint(line: &[u8], what: u8) {
     if what == b'f' {
-        return room_cases::in_free(line);
+        return place_cases::in_free(line);
     }
     if what == b'p' {
-        return room_cases::in_part(line);
+        return place_cases::in_part(line);
     }
     if what == b'w' {
-        return room_cases::in_longest(line);
+        return place_cases::in_longest(line);
     }
     if what == b'x' {
-        return room_cases::in_scattered(line);
+        return place_cases::in_scattered(line);
     }
     if what == b'g' {
         return paint_cases::granules_of(line);

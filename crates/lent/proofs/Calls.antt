@@ -1,5 +1,5 @@
--- The call over a lent session beside the by-value one: the two statements say the same, at the session behind the reference and the counts for
--- one, and at both in one record for the other. Assumes nothing.
+-- The call over a lent session beside the by-value one: the two statements say the same, at the session behind the
+-- reference and the counts for one, and at both in one record for the other. Assumes nothing.
 use Prim.Native.Nat.{ℕ}
 use mathlib.Core.Path.{ap, ap₂}
 use mathlib.Core.List.{List}
@@ -11,7 +11,8 @@ use Rattle.lent.specs.Calls.{counts-of, FeedInPlaceCall}
 
 -- what the by-value call hands back, of the session and the counts that a lent one leaves
 abbrev pub together : Session → Counts → Fed
-together session counts = record { session = session; status = counts .status; taken = counts .taken; wrote = counts .wrote }
+together session counts =
+    record { session = session; status = counts .status; taken = counts .taken; wrote = counts .wrote }
 
 module _ {session : Session} {shadow table piece room shadow-after table-after room-after : List ℕ} where
   pub in-place : {fed : Fed} → FeedCall session shadow table piece room fed shadow-after table-after room-after

@@ -1,5 +1,6 @@
--- What a refusal leaves behind the reference: 24 changes no field of the lent session, no lent buffer, takes no byte and writes none; a line
--- feed that ends a refused line changes neither shadow nor table. Read off the statement, so it is about the code. Assumes nothing.
+-- What a refusal leaves behind the reference: 24 changes no field of the lent session, no lent buffer, takes no byte
+-- and writes none; a line feed that ends a refused line changes neither shadow nor table. Read off the statement, so it
+-- is about the code. Assumes nothing.
 use Prim.Native.Nat.{ℕ}
 use mathlib.Core.Path.{_≡_, ap}
 use mathlib.Core.Logic.{_≢_}
@@ -15,7 +16,8 @@ use Rattle.watcher.proofs.Refusals as by-value-call
 use Rattle.lent.specs.Calls.{counts-of, FeedInPlaceCall}
 use Rattle.lent.proofs.Calls.{by-value}
 
-module _ {session session-after : Session} {shadow table room shadow-after table-after room-after : List ℕ} {counts : Counts} where
+module _ {session session-after : Session} {shadow table room shadow-after table-after room-after : List ℕ}
+    {counts : Counts} where
   pub feed-in-place-refused-keeps : {piece : List ℕ}
       → FeedInPlaceCall session shadow table piece room counts session-after shadow-after table-after room-after
       → counts .status ≢ 0
@@ -28,6 +30,8 @@ module _ {session session-after : Session} {shadow table room shadow-after table
       let kept = by-value-call.feed-refused-keeps (by-value lent) refused in
       (ap counts-of (kept .0), ap (λ (fed : Fed). fed .session) (kept .0), kept .1, kept .2, kept .3)
 
-  pub line-in-place-refused-keeps : FeedInPlaceCall session shadow table (line-feed ∷ []) room counts session-after shadow-after table-after room-after
-      → status (act-line watcher (state-of session shadow table) .answer) ≢ 0 → (shadow-after ≡ shadow) × (table-after ≡ table)
+  pub line-in-place-refused-keeps : FeedInPlaceCall session shadow table
+      (line-feed ∷ []) room counts session-after shadow-after table-after room-after
+      → status (act-line watcher (state-of session shadow table) .answer) ≢ 0 → (shadow-after ≡ shadow)
+      × (table-after ≡ table)
   line-in-place-refused-keeps lent refused = by-value-call.line-refused-keeps (by-value lent) refused

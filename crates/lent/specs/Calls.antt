@@ -1,5 +1,6 @@
--- The statement of the call over a lent session, for every input: its counts, the session that lies behind the reference at exit, and every
--- other lent buffer as it leaves it are those of the by-value feed on the session at entry.
+-- The statement of the call over a lent session, for every input: its counts, the session that lies behind the
+-- reference at exit, and every other lent buffer as it leaves it are those of the by-value feed on the session at
+-- entry.
 use Prim.Native.Nat.{ℕ}
 use mathlib.Core.Path.{_≡_}
 use mathlib.Core.List.{List}

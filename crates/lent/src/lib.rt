@@ -1,5 +1,5 @@
-// The call for a caller that keeps one session: the session is lent, and changed in place. It answers as the by-value call
-// does, 24 among its answers, on which the session stays as it was.
+// The call for a caller that keeps one session: the session is lent, and changed in place. It answers as the by-value
+// call does, 24 among its answers, on which the session stays as it was.
 use rules::Counts;
 use rules::Session;
 ghost use Rattle.lent.specs.Calls.{FeedInPlaceCall};

@@ -1,5 +1,5 @@
-// The lent shadow and table together: a grant, a release, an access, and what a frame does. Each asks for a session that has
-// passed the check behind 24.
+// The lent shadow and table together: a grant, a release, an access, and what a frame does. Each asks for a session
+// that has passed the check behind 24.
 use blocks::rows;
 use rules::Answer;
 use rules::Found;
@@ -49,7 +49,7 @@ pub fn grant(session: Session, shadow: &mut [u8], table: &mut [u32], size: u32) 
     };
     let asked = counted(size);
     let granules = paint::granules_of(asked);
-    let Found::One(place) = room::place(shadow, session.redzone, granules) else {
+    let Found::One(place) = places::place(shadow, session.redzone, granules) else {
         return Answer::NoPlace;
     };
     paint::grant(shadow, place, asked);

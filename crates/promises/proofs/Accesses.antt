@@ -28,7 +28,7 @@ use Rattle.promises.specs.History.{others, latest, held}
 use Rattle.promises.specs.History.{seeks, Granted, Released, did, events}
 use Rattle.promises.specs.History.{History, happens, happen, heard, heard-all}
 use Rattle.promises.specs.Replay.{Replay, session, Line, history, live-at, quarantine-at, held-at, ran, happened}
-use Rattle.promises.specs.Rows.{_∈_, HeldRow, of-row, past, RowOf}
+use Rattle.promises.specs.Rows.{_∈_, HeldRow, block-of, past, RowOf}
 use Rattle.promises.specs.Accesses.{Touches, Stray, Reported, First, FirstBadByte, TwoBlocks, UntilGranted}
 use Rattle.promises.specs.Accesses.{OutsideNowhere, KindBy, Kinds}
 use Rattle.promises.proofs.History.{did-alone, did-both, events-done, DidGrant, granted-by, released-by}
@@ -105,7 +105,7 @@ module _ {S R Q : ℕ} {shadow table : List ℕ} {h : History} (stands : Stands 
             ∙ laid .of-none (b / granule) (omega arith)
             (λ i own.
             ⊎-elim {C = Off table i (b / granule)}
-            (λ left. inl (omega arith)) (λ right. inr (omega arith)) (off (of-row table i) (row-held stands i own)));
+            (λ left. inl (omega arith)) (λ right. inr (omega arith)) (off (block-of table i) (row-held stands i own)));
       }
 
 -- ---- every access
@@ -220,10 +220,10 @@ module _ {S R Q : ℕ} {shadow table : List ℕ} {h : History} (stands : Stands 
   -- a byte of row i's granules is in no other held row's block
   one-row : (i j : ℕ) → HeldRow table i → HeldRow table j → i ≢ j → (b : ℕ) → granule * start table i ≤ b
       → b < granule * ends table i
-      → has-byte (of-row table j) b ≡ true → ⊥
+      → has-byte (block-of table j) b ≡ true → ⊥
   one-row i j hi hj differ b from below has =
       let range : (granule * start table j ≤ b) × (b < granule * start table j + size table j) =
-      has-byte-true (of-row table j) b has in
+      has-byte-true (block-of table j) b has in
       ⊎-elim {C = ⊥}
       (λ left. omega (arith, range .0))
       (λ right. omega (arith, range .1, granules-enough (size table j)))
@@ -231,13 +231,13 @@ module _ {S R Q : ℕ} {shadow table : List ℕ} {h : History} (stands : Stands 
 
   -- no byte of a quarantined row lies in a live block
   quarantined-stray : (i : ℕ) → i < rows table → state table i ≡ quarantined → (b : ℕ)
-      → has-byte (of-row table i) b ≡ true → lies-in (h .live) b ≡ false
+      → has-byte (block-of table i) b ≡ true → lies-in (h .live) b ≡ false
   quarantined-stray i below is b has =
       lies-in-not (h .live) b
       (λ x m has-x.
       let row : RowOf table live x = stands .standing .lives .row x m in
       let range : (granule * start table i ≤ b) × (b < granule * start table i + size table i) =
-      has-byte-true (of-row table i) b has in
+      has-byte-true (block-of table i) b has in
       one-row i (row .0) (record { below = below; has = inr is }) (record { below = row .1; has = inl (row .2) })
       (λ e. absurd (omega (arith, row .2, ap (state table) e))) b (range .0)
       (omega (arith, range .1, granules-enough (size table i)))
@@ -253,7 +253,7 @@ module _ {S R Q : ℕ} {shadow table : List ℕ} {h : History} (stands : Stands 
       (λ x m has-x.
       let row : RowOf table live x = stands .standing .lives .row x m in
       let range : (granule * start table (row .0) ≤ b) × (b < granule * start table (row .0) + size table (row .0)) =
-      has-byte-true (of-row table (row .0)) b (ap (λ y. has-byte y b) (row .3) ∙ has-x) in
+      has-byte-true (block-of table (row .0)) b (ap (λ y. has-byte y b) (row .3) ∙ has-x) in
       elim (ℕ-discrete i (row .0)) [
         | yes e ↦ omega (arith, range .1, ap (start table) e, ap (size table) e)
         | no differ ↦
@@ -274,13 +274,13 @@ module _ {S R Q : ℕ} {shadow table : List ℕ} {h : History} (stands : Stands 
   }
 
   two-rows : (i j a n b c : ℕ) → HeldRow table i → HeldRow table j → i ≢ j → a ≤ b → b < a + n
-      → has-byte (of-row table i) b ≡ true
-      → a ≤ c → c < a + n → has-byte (of-row table j) c ≡ true → (s : ℕ) × Stray (h .live) a n s
+      → has-byte (block-of table i) b ≡ true
+      → a ≤ c → c < a + n → has-byte (block-of table j) c ≡ true → (s : ℕ) × Stray (h .live) a n s
   two-rows i j a n b c hi hj differ from-b below-b has-b from-c below-c has-c =
       let range : (granule * start table i ≤ b) × (b < granule * start table i + size table i) =
-      has-byte-true (of-row table i) b has-b in
+      has-byte-true (block-of table i) b has-b in
       let range′ : (granule * start table j ≤ c) × (c < granule * start table j + size table j) =
-      has-byte-true (of-row table j) c has-c in
+      has-byte-true (block-of table j) c has-c in
       ⊎-elim
       (λ live-i.
       ⊎-elim
@@ -304,11 +304,11 @@ pub two-blocks : TwoBlocks
 two-blocks r before x line a n touches y z in-y in-z differ b c from-b below-b has-b from-c below-c has-c =
     let m : Moment (HoldsOf r) (history r before) x = line-moment r before x line in
     let table : List ℕ = m .st .pool .table in
-    let first : (i : ℕ) × HeldRow table i × (of-row table i ≡ y) = held-row (m .holds .stands) y in-y in
-    let second : (j : ℕ) × HeldRow table j × (of-row table j ≡ z) = held-row (m .holds .stands) z in-z in
+    let first : (i : ℕ) × HeldRow table i × (block-of table i ≡ y) = held-row (m .holds .stands) y in-y in
+    let second : (j : ℕ) × HeldRow table j × (block-of table j ≡ z) = held-row (m .holds .stands) z in-z in
     reported r before x line a n touches .reported .1
     (two-rows (m .holds .stands) (first .0) (second .0) a n b c (first .1) (second .1)
-    (λ e. differ (sym (first .2) ∙ ap (of-row table) e ∙ second .2)) from-b below-b
+    (λ e. differ (sym (first .2) ∙ ap (block-of table) e ∙ second .2)) from-b below-b
     (ap (λ w. has-byte w b) (first .2) ∙ has-b) from-c below-c
     (ap (λ w. has-byte w c) (second .2) ∙ has-c))
 
@@ -320,7 +320,7 @@ others-stray : {S R Q : ℕ} {shadow table : List ℕ} {h : History} → Stands 
 others-stray {table = table} {h = h} stands y in-y b has-b =
     let row : RowOf table live y = stands .standing .lives .row y in-y in
     let range : (granule * start table (row .0) ≤ b) × (b < granule * start table (row .0) + size table (row .0)) =
-    has-byte-true (of-row table (row .0)) b (ap (λ w. has-byte w b) (row .3) ∙ has-b) in
+    has-byte-true (block-of table (row .0)) b (ap (λ w. has-byte w b) (row .3) ∙ has-b) in
     lies-in-not (others (y .address) (h .live)) b
     (λ z in-z has-z.
     let other : (z ∈ h .live) × (z .address ≢ y .address) = others-of (y .address) (h .live) z in-z in
@@ -329,7 +329,8 @@ others-stray {table = table} {h = h} stands y in-y b has-b =
     (record { below = row′ .1; has = inl (row′ .2) })
     (λ e.
     other .1
-    (ap (λ w. w .address) (sym (row′ .3)) ∙ ap (λ k. granule * start table k) (sym e) ∙ ap (λ w. w .address) (row .3))) b
+    (ap (λ w. w .address) (sym (row′ .3)) ∙ ap (λ k. granule * start table k) (sym e)
+    ∙ ap (λ w. w .address) (row .3))) b
     (range .0) (omega (arith, range .1, granules-enough (size table (row .0))))
     (ap (λ w. has-byte w b) (row′ .3) ∙ has-z))
 

@@ -12,7 +12,7 @@ use Rattle.rules.specs.Grant.{granules, granted}
 use Rattle.rules.proofs.Table.{row-of-zeros, zeros-of-row}
 use Rattle.rules.proofs.Grant.{granules-enough}
 use Rattle.promises.specs.History.{Block, has-byte, History, latest, held}
-use Rattle.promises.specs.Rows.{past, Apart, HeldRow, of-row, in-use, drawn-byte, drawn}
+use Rattle.promises.specs.Rows.{past, Apart, HeldRow, block-of, in-use, drawn-byte, drawn}
 use Rattle.promises.specs.Agreement.{ShapedAs, SeparatedIn, RowsAre, QuarantinedIn, AgreesWith}
 use Rattle.promises.proofs.Blocks.{has-byte-true, has-byte-not}
 use Rattle.promises.proofs.Laid.{ends, Off, Laid}
@@ -26,13 +26,13 @@ use Rattle.promises.proofs.Invariant.{Stands, held-count}
 -- granules apart are bytes apart
 rows-apart : (R : ℕ) (table : List ℕ) (i j : ℕ)
     → (ends table i + R ≤ start table j) ⊎ (ends table j + R ≤ start table i)
-    → Apart R (of-row table i) (of-row table j)
+    → Apart R (block-of table i) (block-of table j)
 unfolding past
 rows-apart R table i j =
-    ⊎-elim {C = Apart R (of-row table i) (of-row table j)} (λ left. inl (omega arith)) (λ right. inr (omega arith))
+    ⊎-elim {C = Apart R (block-of table i) (block-of table j)} (λ left. inl (omega arith)) (λ right. inr (omega arith))
 
 -- and back
-apart-rows : (R : ℕ) (table : List ℕ) (i j : ℕ) → Apart R (of-row table i) (of-row table j)
+apart-rows : (R : ℕ) (table : List ℕ) (i j : ℕ) → Apart R (block-of table i) (block-of table j)
     → (ends table i + R ≤ start table j) ⊎ (ends table j + R ≤ start table i)
 unfolding past
 apart-rows R table i j =
@@ -131,7 +131,7 @@ agrees-stand {S} {R} {Q} {shadow} {table} {h} above agrees =
             (λ i own. omega (arith, apart .inside i own .low)));
         lives = record {
           row = λ x m. rows-are .live-rows x .0 m;
-          listed = λ i below is. rows-are .live-rows (of-row table i) .1 (i, below, is, refl);
+          listed = λ i below is. rows-are .live-rows (block-of table i) .1 (i, below, is, refl);
           distinct = rows-are .live-once;
         };
         used = omega (arith, rows-are .count, length-append (h .live) (latest R Q (h .released)), queue .count);

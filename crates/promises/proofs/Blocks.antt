@@ -18,8 +18,11 @@ use Rattle.promises.specs.Rows.{_∈_, Distinct}
 -- a block's bytes are those from its address on, as many as its size
 pub has-byte-true : (x : Block) (b : ℕ) → has-byte x b ≡ true → (x .address ≤ b) × (b < x .address + x .size)
 unfolding has-byte
-has-byte-true x b e =
-    (leb-true (x .address) b (both {a = leb (x .address) b} e .0), ltb-true b (x .address + x .size) (both {a = leb (x .address) b} e .1))
+has-byte-true x b e = (
+  leb-true (x .address) b (both {a = leb (x .address) b} e .0),
+  ltb-true b (x .address + x .size)
+      (both {a = leb (x .address) b} e .1),
+)
 
 -- each of those is one
 pub has-byte-is : (x : Block) (b : ℕ) → x .address ≤ b → b < x .address + x .size → has-byte x b ≡ true
@@ -105,7 +108,8 @@ others-of a [] x m = absurd (List·Memᴰ·not-nil m)
 others-of a (y ∷ blocks) x m =
     elim (ℕ-discrete (y .address) a) [
       | yes e ↦
-          (let rest : (x ∈ blocks) × (x .address ≢ a) = others-of a blocks x (subst (λ l. x ∈ l) (others-here a y blocks e) m) in
+          (let rest : (x ∈ blocks) × (x .address ≢ a) = others-of a blocks x
+          (subst (λ l. x ∈ l) (others-here a y blocks e) m) in
           (List·Memᴰ·tail (rest .0), rest .1))
       | no e ↦
           ⊎-elim
@@ -128,7 +132,8 @@ others-in a (y ∷ blocks) x m other =
           (List·Memᴰ·cases-cons m)
       | no e ↦
           subst (λ l. x ∈ l) (sym (others-later a y blocks e))
-          (⊎-elim (λ same. List·Memᴰ·head same) (λ later. List·Memᴰ·tail (others-in a blocks x later other)) (List·Memᴰ·cases-cons m))
+          (⊎-elim (λ same. List·Memᴰ·head same) (λ later. List·Memᴰ·tail (others-in a blocks x later other))
+          (List·Memᴰ·cases-cons m))
     ]
 
 -- where no block is at the address, nothing is at it, and all are the others

@@ -78,7 +78,8 @@ module _ {P : Type 0} (engine : Engine P) where
       let first : Ran P = ran-on (fed-on engine st text call) in
       let others : Early engine (first .state) (drop n text) calls = stops-early (first .state) (drop n text) calls in
       early st text (call ∷ calls) (take n text ++ others .taken)
-      (sym (take-append-drop n text) ∙ ap (λ l. take n text ++ l) (others .text-is) ∙ sym (append-assoc (take n text) (others .taken) _))
+      (sym (take-append-drop n text) ∙ ap (λ l. take n text ++ l) (others .text-is)
+      ∙ sym (append-assoc (take n text) (others .taken) _))
       (ap (after (first .report)) (others .ran-is)
       ∙ ap (λ r. after (r .report) (run engine (r .state) (others .taken))) (call-ran st text call)
       ∙ sym (run-append engine st (take n text) (others .taken)))

@@ -25,7 +25,8 @@ use Rattle.rules.proofs.Refusals.{access-good, access-bad}
 use Rattle.promises.proofs.Lines.{by-line}
 
 -- the value that a grant, a release and an access are answered
-access-fits : (shadow : List ℕ) (a n : ℕ) → length shadow ≤ most-granules → a < 16 ^ 8 → in-numbers (access shadow a n) .value < 16 ^ 8
+access-fits : (shadow : List ℕ) (a n : ℕ) → length shadow ≤ most-granules → a < 16 ^ 8
+    → in-numbers (access shadow a n) .value < 16 ^ 8
 unfolding in-numbers
 access-fits shadow a n most fits =
     by-found (first-bad shadow a n)
@@ -34,11 +35,13 @@ access-fits shadow a n most fits =
     (first-bad-fits shadow a n b (first-bad-some shadow a n b e) fits most))
     (λ e. subst (λ answer. in-numbers answer .value < 16 ^ 8) (sym (access-good shadow a n e)) (omega arith))
 
-grant-fits : (R : ℕ) (shadow table : List ℕ) (s : ℕ) → length shadow ≤ most-granules → in-numbers (grant R shadow table s .answer) .value < 16 ^ 8
+grant-fits : (R : ℕ) (shadow table : List ℕ) (s : ℕ) → length shadow ≤ most-granules
+    → in-numbers (grant R shadow table s .answer) .value < 16 ^ 8
 unfolding grant-at in-numbers
 grant-fits R shadow table s most =
     by-grant R shadow table s (λ acted. in-numbers (acted .answer) .value < 16 ^ 8)
-    (λ full. omega arith) (λ i row nowhere. omega arith) (λ i p row at. place-fits shadow R (granules (counted s)) p at most)
+    (λ full. omega arith) (λ i row nowhere. omega arith)
+    (λ i p row at. place-fits shadow R (granules (counted s)) p at most)
 
 release-fits : (R Q : ℕ) (shadow table : List ℕ) (a : ℕ) → length table ≤ row-numbers * most-rows
     → in-numbers (release R Q shadow table a .answer) .value < 16 ^ 8
@@ -48,7 +51,12 @@ release-fits R Q shadow table a most =
     (λ e. omega arith) (λ above no-live no-quarantined. omega arith) (λ above no-live i e. omega arith)
     (λ above i e.
     let pool : Pool = record { shadow = shadow; table = table } in
-    omega (arith, evicted-most R Q (quarantine-row pool i), quarantine-row-lengths pool i (row-at-some live table a i e .below) .1))
+    omega (
+      arith,
+      evicted-most R Q (quarantine-row pool i),
+      quarantine-row-lengths pool i
+          (row-at-some live table a i e .below) .1,
+    ))
 
 -- the value that a line is answered fits its 8 digits
 pub value-fits : (st : State Pool) → LentState st → in-numbers (act-line watcher st .answer) .value < 16 ^ 8
@@ -57,7 +65,8 @@ value-fits st lent =
     by-line (λ frame. in-numbers (act (st .session) (st .pool .shadow) (st .pool .table) frame .answer) .value < 16 ^ 8)
     (omega arith) (omega arith) (omega arith)
     (λ s fits. grant-fits (st .session .redzone) (st .pool .shadow) (st .pool .table) s (lent-granules lent))
-    (λ a fits. release-fits (st .session .redzone) (st .session .quarantine) (st .pool .shadow) (st .pool .table) a (lent-numbers lent))
+    (λ a fits. release-fits (st .session .redzone) (st .session .quarantine) (st .pool .shadow) (st .pool .table) a
+    (lent-numbers lent))
     (λ a n fits fits′. access-fits (st .pool .shadow) a n (lent-granules lent) fits)
     (λ a n fits fits′. access-fits (st .pool .shadow) a n (lent-granules lent) fits)
     (st .session .unfinished) (st .session .line)

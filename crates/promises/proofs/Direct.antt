@@ -1,5 +1,5 @@
--- That a direct call is the line of its frame: a line's bytes are held and change nothing but the unfinished line, and its line feed does
--- what the call does. Assumes nothing.
+-- That a direct call is the line of its frame: a line's bytes are held and change nothing but the unfinished line, and
+-- its line feed does what the call does. Assumes nothing.
 use Prim.Native.Nat.{ℕ, zero, suc, _/_, _%_, _^_, _<_}
 use native.Mathlib.Nat.{mod-lt}
 use native.Mathlib.Omega.{arith}
@@ -22,7 +22,8 @@ use Rattle.rules.specs.Watcher.{act, watcher, state-of, outcome}
 use Rattle.rules.specs.Calls.{as-line}
 use Rattle.rules.proofs.Put.{Each}
 use Rattle.rules.proofs.Hex.{length-written}
-use Rattle.rules.proofs.Frames.{fields-written, line-asks, frame-grant, frame-release, frame-read, frame-write, with-zero-is, line-whole}
+use Rattle.rules.proofs.Frames.{fields-written, line-asks, frame-grant, frame-release, frame-read, frame-write}
+use Rattle.rules.proofs.Frames.{with-zero-is, line-whole}
 use Rattle.rules.proofs.Feed.{SameNumbers, Quiet, run-append, run-numbers, run-quiet}
 use Rattle.rules.proofs.Calls.{grant-as-frame, release-as-frame, access-as-frame}
 use Rattle.promises.specs.Replay.{Idle}
@@ -43,13 +44,15 @@ no-feed-cons b line first rest (suc k) below = rest k (omega arith)
 no-feed-append : (xs ys : List ℕ) → NoFeed xs → NoFeed ys → NoFeed (xs ++ ys)
 no-feed-append [] ys first second = second
 no-feed-append (x ∷ xs) ys first second =
-    no-feed-cons x (xs ++ ys) (first zero (omega arith)) (no-feed-append xs ys (λ k below. first (suc k) (omega arith)) second)
+    no-feed-cons x (xs ++ ys) (first zero (omega arith))
+    (no-feed-append xs ys (λ k below. first (suc k) (omega arith)) second)
 
 no-feed-digits : (k n : ℕ) → NoFeed (digits k n)
 no-feed-digits zero n = subst NoFeed (sym (digits-zero n)) (λ k below. absurd (omega arith))
 no-feed-digits (suc k) n =
     subst NoFeed (sym (digits-suc k n))
-    (no-feed-cons (digit (n / 16 ^ k % 16)) (digits k n) (digit-no-feed (n / 16 ^ k % 16) (mod-lt (n / 16 ^ k) (omega arith))) (no-feed-digits k n))
+    (no-feed-cons (digit (n / 16 ^ k % 16)) (digits k n)
+    (digit-no-feed (n / 16 ^ k % 16) (mod-lt (n / 16 ^ k) (omega arith))) (no-feed-digits k n))
 
 no-feed-written : {A : Type 0} (fields : List (Field A)) (a : A) → NoFeed (written fields a)
 no-feed-written [] a = subst NoFeed (sym (written-nil a)) (λ k below. absurd (omega arith))
@@ -59,22 +62,27 @@ no-feed-written (f ∷ fields) a =
     (no-feed-digits (f .width) (f .number a)) (no-feed-written fields a))
 
 -- the session stands for them
-spells-run : (line bytes : List ℕ) (st : State Pool) → NoFeed line → Spells (st .session) bytes → Spells (run watcher st line .state .session) (bytes ++ line)
+spells-run : (line bytes : List ℕ) (st : State Pool) → NoFeed line → Spells (st .session) bytes
+    → Spells (run watcher st line .state .session) (bytes ++ line)
 unfolding hold
 spells-run [] bytes st none· spells =
-    subst (λ r. Spells (r .state .session) (bytes ++ [])) (sym (run-nil watcher st)) (subst (Spells (st .session)) (sym (append-nil bytes)) spells)
+    subst (λ r. Spells (r .state .session) (bytes ++ [])) (sym (run-nil watcher st))
+    (subst (Spells (st .session)) (sym (append-nil bytes)) spells)
 spells-run (b ∷ line) bytes st none· spells =
     subst (λ r. Spells (r .state .session) (bytes ++ (b ∷ line))) (sym (run-byte st b line (none· zero (omega arith))))
     (subst (Spells (run watcher (hold st b .state) line .state .session)) (append-assoc bytes (b ∷ []) line)
-    (spells-run line (bytes ++ (b ∷ [])) (hold st b .state) (λ k below. none· (suc k) (omega arith)) (spells-more spells b)))
+    (spells-run line (bytes ++ (b ∷ [])) (hold st b .state) (λ k below. none· (suc k) (omega arith))
+    (spells-more spells b)))
 
 -- ---- a line
 
 -- what a frame does goes by R and Q alone, and an emptied session by the four numbers
-act-same : (session other : Session) (shadow table : List ℕ) (k : Frame) → SameNumbers session other → act other shadow table k ≡ act session shadow table k
+act-same : (session other : Session) (shadow table : List ℕ) (k : Frame) → SameNumbers session other
+    → act other shadow table k ≡ act session shadow table k
 unfolding act
 act-same session other shadow table (Grant s) same = ap (λ R. grant R shadow table s) (same .redzone)
-act-same session other shadow table (Release a) same = ap₂ (λ R Q. release R Q shadow table a) (same .redzone) (same .quarantine)
+act-same session other shadow table (Release a) same =
+    ap₂ (λ R Q. release R Q shadow table a) (same .redzone) (same .quarantine)
 act-same session other shadow table (Read a n) same = refl
 act-same session other shadow table (Write a n) same = refl
 act-same session other shadow table (Refused answer) same = refl
@@ -82,9 +90,25 @@ act-same session other shadow table (Refused answer) same = refl
 emptied-same : (session other : Session) → SameNumbers session other → emptied other ≡ emptied session
 unfolding emptied
 emptied-same session other same =
-    ap₂ (λ S n. record { granules = S; rows = n; redzone = other .redzone; quarantine = other .quarantine; unfinished = 0; line = no-bytes })
+    ap₂ (λ S n. record {
+      granules = S;
+      rows = n;
+      redzone = other .redzone;
+      quarantine = other .quarantine;
+      unfinished =
+          0;
+      line = no-bytes;
+    })
     (same .granules) (same .rows)
-    ∙ ap₂ (λ R Q. record { granules = session .granules; rows = session .rows; redzone = R; quarantine = Q; unfinished = 0; line = no-bytes })
+    ∙ ap₂ (λ R Q. record {
+      granules = session .granules;
+      rows = session .rows;
+      redzone = R;
+      quarantine = Q;
+      unfinished =
+          0;
+      line = no-bytes;
+    })
     (same .redzone) (same .quarantine)
 
 -- a line with no line feed in it, and then a line feed: what its frame does
@@ -100,8 +124,10 @@ line-runs st line k none· no-feed asks-k =
     let empty-line : Spells (st .session) [] =
     subst (λ s. Spells s []) (sym none·) (spells-none (emptied (st .session)) refl refl) in
     let spells : Spells (mid .session) line = spells-run line [] st no-feed empty-line in
-    let asked-is : frame-of-line (mid .session .unfinished) (mid .session .line) ≡ k = sym (spells-asks spells) ∙ asks-k in
-    let session-is : emptied (mid .session) ≡ st .session = emptied-same (st .session) (mid .session) same ∙ sym none· in
+    let asked-is : frame-of-line (mid .session .unfinished) (mid .session .line) ≡ k =
+    sym (spells-asks spells) ∙ asks-k in
+    let session-is : emptied (mid .session) ≡ st .session =
+    emptied-same (st .session) (mid .session) same ∙ sym none· in
     let acted-is : act-line watcher mid ≡ outcome (act (st .session) (st .pool .shadow) (st .pool .table) k) =
     ap (λ frame. outcome (act (mid .session) (mid .pool .shadow) (mid .pool .table) frame)) asked-is
     ∙ ap (λ pool. outcome (act (mid .session) (pool .shadow) (pool .table) k)) (quiet .pool)
@@ -110,8 +136,13 @@ line-runs st line k none· no-feed asks-k =
     ∙ ap (λ report. after report (run watcher mid (line-feed ∷ []))) (quiet .report)
     ∙ run-feed mid []
     ∙ ap (after (finish watcher mid .report)) (run-nil watcher (finish watcher mid .state))
-    ∙ ap (λ report. record { state = finish watcher mid .state; report = report }) (append-nil (finish watcher mid .report))
-    ∙ ap₂ (λ session done. record { state = record { session = session; pool = done .pool }; report = answer-line (done .answer) })
+    ∙ ap (λ report. record { state = finish watcher mid .state; report = report })
+    (append-nil (finish watcher mid .report))
+    ∙ ap₂ (λ session done. record {
+      state = record { session = session; pool = done .pool };
+      report = answer-line
+          (done .answer);
+    })
     session-is acted-is
 
 -- the line of a frame of 32-bit numbers asks that frame

@@ -24,7 +24,7 @@ use Rattle.rules.proofs.Shadow.{leading-all, leading-first, leading-none, negat
 use Rattle.rules.proofs.Shadow.{not-leading}
 use Rattle.rules.proofs.Grant.{granules-enough, granules-least, granted-whole, granted-last}
 use Rattle.promises.specs.History.{Block, lies-in, has-byte}
-use Rattle.promises.specs.Rows.{_∈_, HeldRow, of-row, covers, painted, drawn-byte, drawn, RowOf}
+use Rattle.promises.specs.Rows.{_∈_, HeldRow, block-of, covers, painted, drawn-byte, drawn, RowOf}
 use Rattle.promises.proofs.Blocks.{has-byte-true, has-byte-is, lies-in-true, lies-in-is}
 use Rattle.promises.proofs.Laid.{ends, Off, Laid}
 use Rattle.promises.proofs.Kept.{granted-small}
@@ -93,7 +93,8 @@ by-granule table g P one nothing =
 
 -- one held row at most is over a granule
 over-one : (R : ℕ) {table : List ℕ}
-    → ((i j : ℕ) → HeldRow table i → HeldRow table j → i ≢ j → (ends table i + R ≤ start table j) ⊎ (ends table j + R ≤ start table i))
+    → ((i j : ℕ) → HeldRow table i → HeldRow table j → i ≢ j → (ends table i + R ≤ start table j)
+    ⊎ (ends table j + R ≤ start table i))
     → (g i j : ℕ) → Over table g i → Over table g j → i ≡ j
 over-one R apart g i j o o′ =
     elim (ℕ-discrete i j) [
@@ -178,7 +179,12 @@ module _ {S R : ℕ} {shadow table : List ℕ} (laid : Laid S R shadow table) wh
       (λ i e o.
       ⊎-elim
       (λ is.
-      inl (omega (arith, live-byte i g o is, granted-small (size table i) (g - start table i) (omega (arith, o .from, o .below)))))
+      inl (omega (
+        arith,
+        live-byte i g o is,
+        granted-small (size table i) (g - start table i)
+            (omega (arith, o .from, o .below)),
+      )))
       (λ is. inr (inl (laid .of-quarantined i (o .held .below) is g (o .from) (o .below))))
       (o .held .has))
       (λ e off. inr (inr (laid .of-none g in-arena off)))
@@ -230,9 +236,9 @@ module _ {S R : ℕ} {shadow table : List ℕ} (laid : Laid S R shadow table) wh
   lies-row blocks lives b e =
       let one : (x : Block) × (x ∈ blocks) × (has-byte x b ≡ true) = lies-in-true blocks b e in
       let row : RowOf table live (one .0) = lives .row (one .0) (one .1) in
-      let has : has-byte (of-row table (row .0)) b ≡ true = ap (λ y. has-byte y b) (row .3) ∙ one .2 in
+      let has : has-byte (block-of table (row .0)) b ≡ true = ap (λ y. has-byte y b) (row .3) ∙ one .2 in
       let range : (granule * start table (row .0) ≤ b) × (b < granule * start table (row .0) + size table (row .0)) =
-      has-byte-true (of-row table (row .0)) b has in (
+      has-byte-true (block-of table (row .0)) b has in (
         row .0,
         record {
           held = record { below = row .1; has = inl (row .2) };
@@ -257,9 +263,15 @@ module _ {S R : ℕ} {shadow table : List ℕ} (laid : Laid S R shadow table) wh
       (λ i e o. ⊎-elim (λ is. of-live-row i o is) (λ is. of-quarantined-row i o is) (o .held .has))
       (λ e off.
       not-leading shadow b
-      (omega (arith, ap leading (laid .of-none (b / granule) (omega arith) off), leading-none redzone-byte (omega arith)))
+      (omega (
+        arith,
+        ap leading (laid .of-none (b / granule) (omega arith) off),
+        leading-none redzone-byte
+            (omega arith),
+      ))
       ∙ sym
-      (not-lies blocks b (λ lies. let l = lies-row blocks lives b lies in over-off (l .0) (l .1) (off (l .0) (l .1 .held))))))
+      (not-lies blocks b (λ lies. let l = lies-row blocks lives b lies in over-off (l .0) (l .1)
+      (off (l .0) (l .1 .held))))))
       (λ beyond.
       not-inside shadow b (omega (arith, laid .of-shadow))
       ∙ sym
@@ -276,12 +288,15 @@ module _ {S R : ℕ} {shadow table : List ℕ} (laid : Laid S R shadow table) wh
           by-order b (granule * start table i + size table i)
           (λ below.
           addressable-is shadow b (omega (arith, laid .of-shadow, laid .high i (o .held), o .below))
-          (subst (λ v. b % granule < leading v) (sym (live-byte i (b / granule) o is)) (leading-granted (size table i) (start table i) b (o .from) below))
+          (subst (λ v. b % granule < leading v) (sym (live-byte i (b / granule) o is))
+          (leading-granted (size table i) (start table i) b (o .from) below))
           ∙ sym
-          (lies-in-is blocks b (of-row table i) (lives .listed i (o .held .below) is) (has-byte-is (of-row table i) b (omega (arith, o .from)) below)))
+          (lies-in-is blocks b (block-of table i) (lives .listed i (o .held .below) is)
+          (has-byte-is (block-of table i) b (omega (arith, o .from)) below)))
           (λ past.
           not-leading shadow b
-          (subst (λ v. leading v ≤ b % granule) (sym (live-byte i (b / granule) o is)) (past-granted (size table i) (start table i) b (o .from) (o .below) past))
+          (subst (λ v. leading v ≤ b % granule) (sym (live-byte i (b / granule) o is))
+          (past-granted (size table i) (start table i) b (o .from) (o .below) past))
           ∙ sym
           (not-lies blocks b
           (λ lies.
@@ -313,7 +328,8 @@ over-not-off table g i o =
     ⊎-elim {C = ⊥} (λ left. omega (arith, o .from)) (λ right. omega (arith, o .below))
 
 module _ (S R : ℕ) {table : List ℕ} (high : (i : ℕ) → HeldRow table i → ends table i + R ≤ S)
-    (apart : (i j : ℕ) → HeldRow table i → HeldRow table j → i ≢ j → (ends table i + R ≤ start table j) ⊎ (ends table j + R ≤ start table i)) where
+    (apart : (i j : ℕ) → HeldRow table i → HeldRow table j → i ≢ j → (ends table i + R ≤ start table j)
+    ⊎ (ends table j + R ≤ start table i)) where
   drawn-here : (g : ℕ) → g < S → getD (drawn table S 0) g 0 ≡ drawn-byte table g
   drawn-here g in-arena = getD-drawn table S 0 g in-arena ∙ ap (drawn-byte table) (let e : 0 + g ≡ g = omega arith in e)
 

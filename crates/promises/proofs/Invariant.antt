@@ -29,7 +29,7 @@ use Rattle.rules.proofs.Feed.{SameNumbers, lengthened-numbers}
 use Rattle.rules.proofs.Watcher.{act-lengths}
 use Rattle.promises.specs.History.{Block, at, sought-by, nothing-sought, Released, grants-at, releases-at, did}
 use Rattle.promises.specs.History.{History, happens, happen, latest, held}
-use Rattle.promises.specs.Rows.{_∈_, HeldRow, of-row, RowOf, in-use}
+use Rattle.promises.specs.Rows.{_∈_, HeldRow, block-of, RowOf, in-use}
 use Rattle.promises.proofs.History.{told, told-done, told-nothing, did-release, release-seeks-nothing}
 use Rattle.promises.proofs.Replay.{asked}
 use Rattle.promises.proofs.Blocks.{at-one}
@@ -74,7 +74,7 @@ module _ {S R Q : ℕ} {shadow table : List ℕ} {h : History} (stands : Stands 
       (latest R Q (at a (h .live) ++ h .released))
   released-queue i a s =
       let pool : Pool = record { shadow = shadow; table = table } in
-      let own : Block = of-row table i in
+      let own : Block = block-of table i in
       let listed : own ∈ h .live = stands .standing .lives .listed i (s .below) (s .has) in
       subst (Queue R (settle R Q (quarantine-row pool i) .pool .table))
       (latest-again R Q own (h .released)
@@ -90,7 +90,8 @@ module _ {S R Q : ℕ} {shadow table : List ℕ} {h : History} (stands : Stands 
       by-release R Q shadow table a (Leaves S R Q h (Release a))
       (λ e.
       subst (λ c. Leaves S R Q h (Release c) (unchanged (Done 0) shadow table)) (sym e)
-      (subst (λ es. Stands S R Q shadow table (happen h es)) (sym (told-nothing (Release 0) (Done 0) release-seeks-nothing)) stands))
+      (subst (λ es. Stands S R Q shadow table (happen h es))
+      (sym (told-nothing (Release 0) (Done 0) release-seeks-nothing)) stands))
       (λ above no-live no-quarantined. stands)
       (λ above no-live i e. stands)
       (λ above i e.
@@ -133,7 +134,7 @@ stands-act session shadow table h (Refused answer) stands =
 
 module _ {S R Q : ℕ} {shadow table : List ℕ} {h : History} (stands : Stands S R Q shadow table h) where
   -- a held block is that of a live row or of a quarantined one
-  pub held-row : (y : Block) → y ∈ held R Q h → (i : ℕ) × HeldRow table i × (of-row table i ≡ y)
+  pub held-row : (y : Block) → y ∈ held R Q h → (i : ℕ) × HeldRow table i × (block-of table i ≡ y)
   unfolding held
   held-row y m =
       ⊎-elim
@@ -147,7 +148,7 @@ module _ {S R Q : ℕ} {shadow table : List ℕ} {h : History} (stands : Stands 
       (List·Memᴰ·append-cases (h .live) m)
 
   -- the block of a held row is held
-  pub row-held : (i : ℕ) → HeldRow table i → of-row table i ∈ held R Q h
+  pub row-held : (i : ℕ) → HeldRow table i → block-of table i ∈ held R Q h
   unfolding held
   row-held i own =
       ⊎-elim
@@ -198,8 +199,11 @@ module _ (S n R Q : ℕ) where
         stands =
             subst (λ Q′. Stands S R Q′ (acted .shadow) (acted .table) (happen h (told (asked st) (acted .answer))))
             (holds .quarantine)
-            (subst (λ R′. Stands S R′ (st .session .quarantine) (acted .shadow) (acted .table) (happen h (told (asked st) (acted .answer)))) (holds .redzone)
+            (subst (λ R′. Stands S R′ (st .session .quarantine) (acted .shadow) (acted .table)
+            (happen h (told (asked st) (acted .answer)))) (holds .redzone)
             (stands-act (st .session) (st .pool .shadow) (st .pool .table) h (asked st)
-            (subst (λ Q′. Stands S (st .session .redzone) Q′ (st .pool .shadow) (st .pool .table) h) (sym (holds .quarantine))
-            (subst (λ R′. Stands S R′ Q (st .pool .shadow) (st .pool .table) h) (sym (holds .redzone)) (holds .stands)))));
+            (subst (λ Q′. Stands S (st .session .redzone) Q′ (st .pool .shadow) (st .pool .table) h)
+            (sym (holds .quarantine))
+            (subst (λ R′. Stands S R′ Q (st .pool .shadow) (st .pool .table) h) (sym (holds .redzone))
+            (holds .stands)))));
       }

@@ -73,8 +73,13 @@ module _ {S R : ℕ} {shadow table : List ℕ} (laid : Laid S R shadow table) wh
       (λ is.
       let at : start table j + (g - start table j) ≡ g = omega arith in
       let in-block : g - start table j < granules (size table j) = omega arith in
-      omega
-      (arith, ap (λ m. getD shadow m 0) at, laid .of-live j (h .below) is (g - start table j) in-block, granted-small (size table j) (g - start table j) in-block))
+      omega (
+        arith,
+        ap (λ m. getD shadow m 0) at,
+        laid .of-live j (h .below) is (g - start table j) in-block,
+        granted-small
+            (size table j) (g - start table j) in-block,
+      ))
       (λ is. omega (arith, laid .of-quarantined j (h .below) is g from below))
       (h .has)
 

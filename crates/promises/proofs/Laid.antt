@@ -13,16 +13,16 @@ use Rattle.rules.specs.Table.{rows, column, start, size, state, turn}
 use Rattle.rules.specs.Grant.{granules, granted}
 use Rattle.rules.proofs.Tests.{by-order}
 use Rattle.promises.specs.History.{block}
-use Rattle.promises.specs.Rows.{HeldRow, of-row}
+use Rattle.promises.specs.Rows.{HeldRow, block-of}
 
 -- the first granule past row i's
 abbrev pub ends : List ℕ → ℕ → ℕ
 ends table i = start table i + granules (size table i)
 
 -- a block goes by its row's start and size alone
-pub of-row-same : (table other : List ℕ) (j : ℕ) → start table j ≡ start other j → size table j ≡ size other j
-    → of-row table j ≡ of-row other j
-of-row-same table other j starts sizes = ap₂ (λ a s. block (granule * a) s) starts sizes
+pub block-of-same : (table other : List ℕ) (j : ℕ) → start table j ≡ start other j → size table j ≡ size other j
+    → block-of table j ≡ block-of other j
+block-of-same table other j starts sizes = ap₂ (λ a s. block (granule * a) s) starts sizes
 
 -- granule g is none of row i's
 abbrev pub Off : List ℕ → ℕ → ℕ → Type 0
@@ -187,7 +187,8 @@ module _ {S R : ℕ} {shadow table shadow′ table′ : List ℕ} {i lo hi : ℕ
         let in-block′ : k < granules (size table j) = subst (λ s. k < granules s) sizes in-block in
         ap (λ a. getD shadow′ (a + k) 0) (same-start j other)
         ∙ new .beside (start table j + k)
-        (off-changed j other (record { below = was-below j b; has = inl was }) (start table j + k) (omega arith) (omega arith))
+        (off-changed j other (record { below = was-below j b; has = inl was }) (start table j + k) (omega arith)
+        (omega arith))
         ∙ laid .of-live j (was-below j b) was k in-block′
         ∙ ap (λ s. getD (granted s) k 0) (sym sizes));
     of-quarantined =

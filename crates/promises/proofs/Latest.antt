@@ -135,7 +135,8 @@ latest-longest R Q (x ∷ blocks) =
     subst (LongestRun R Q (x ∷ blocks)) (sym (latest-heavy R Q x blocks heavy)) (heavy-longest R Q x blocks heavy))
     (λ light.
     subst (LongestRun R Q (x ∷ blocks)) (sym (latest-light R Q x blocks light))
-    (next-longest R Q x blocks (latest R (Q - weight R (x .size)) blocks) light (latest-longest R (Q - weight R (x .size)) blocks)))
+    (next-longest R Q x blocks (latest R (Q - weight R (x .size)) blocks) light
+    (latest-longest R (Q - weight R (x .size)) blocks)))
 
 -- ---- places in a list
 

@@ -1,5 +1,5 @@
--- The laws of lines: where a text's lines end, what a line asks, the line of an answer and what it says, and the bytes that an unfinished
--- line stands for. Assumes nothing.
+-- The laws of lines: where a text's lines end, what a line asks, the line of an answer and what it says, and the bytes
+-- that an unfinished line stands for. Assumes nothing.
 use Prim.Native.Nat.{ℕ, zero, suc, _+_, _-_, _/_, _%_, _^_, _≤_, _<_}
 use native.Mathlib.Decide.{ℕ-discrete}
 use native.Mathlib.Nat.{le-of-eq, mod-lt}
@@ -17,7 +17,8 @@ use Rattle.rules.specs.declared.Answer.the-variants.{BadLine, BadKind, NotZero}
 use Rattle.rules.specs.declared.Frame.{Frame}
 use Rattle.rules.specs.declared.Frame.the-variants.{Grant, Release, Read, Write, Refused}
 use Rattle.rules.specs.Field.{Field}
-use Rattle.rules.specs.Limits.{frame-digits, too-long, line-feed, answer-fields, answer-status, answer-kind, answer-value}
+use Rattle.rules.specs.Limits.{frame-digits, too-long, line-feed, answer-fields, answer-status, answer-kind}
+use Rattle.rules.specs.Limits.{answer-value}
 use Rattle.rules.specs.Answers.{in-numbers, status}
 use Rattle.rules.specs.Hex.{hex-digit, digit, digits, digits-zero, digits-suc, written, written-nil, written-cons}
 use Rattle.rules.specs.Frames.{fields, frame, asked, frame-of-line, answer-line}
@@ -36,7 +37,8 @@ unfolding lines-on
 lines-feed line text = refl
 
 -- any other byte lengthens it
-pub lines-byte : (line : List ℕ) (b : ℕ) (text : List ℕ) → b ≢ line-feed → lines-on line (b ∷ text) ≡ lines-on (line ++ (b ∷ [])) text
+pub lines-byte : (line : List ℕ) (b : ℕ) (text : List ℕ) → b ≢ line-feed → lines-on line (b ∷ text)
+    ≡ lines-on (line ++ (b ∷ [])) text
 unfolding lines-on
 lines-byte line b text other = if-false _ _ (ne-eqb b line-feed other)
 
@@ -104,8 +106,8 @@ value-answered line answer fits = read-back answer-fields (in-numbers answer) an
 
 -- ---- an unfinished line
 
--- the session's unfinished line stands for these bytes: 18 at most are kept, with zeros in the places that are left, and of more only that
--- they are more
+-- the session's unfinished line stands for these bytes: 18 at most are kept, with zeros in the places that are left,
+-- and of more only that they are more
 pub record Spells (session : Session) (bytes : List ℕ) : Type 0 where
   pub count : length bytes ≤ frame-digits → session .unfinished ≡ length bytes
   pub places : length bytes ≤ frame-digits → session .line ≡ bytes ++ replicate (frame-digits - length bytes) 0
@@ -113,10 +115,12 @@ pub record Spells (session : Session) (bytes : List ℕ) : Type 0 where
 
 -- an empty one for none
 pub spells-none : (session : Session) → session .unfinished ≡ 0 → session .line ≡ no-bytes → Spells session []
-spells-none session none empty = record { count = λ few. none; places = λ few. empty; more = λ many. absurd (omega arith) }
+spells-none session none empty =
+    record { count = λ few. none; places = λ few. empty; more = λ many. absurd (omega arith) }
 
 -- one byte longer, for one byte more
-pub spells-more : {session : Session} {bytes : List ℕ} → Spells session bytes → (b : ℕ) → Spells (lengthened session b) (bytes ++ (b ∷ []))
+pub spells-more : {session : Session} {bytes : List ℕ} → Spells session bytes → (b : ℕ)
+    → Spells (lengthened session b) (bytes ++ (b ∷ []))
 spells-more {session} {bytes} spells b =
     let one-more : length (bytes ++ (b ∷ [])) ≡ length bytes + 1 = length-append bytes (b ∷ []) in
     by-order (length bytes) frame-digits
@@ -132,7 +136,8 @@ spells-more {session} {bytes} spells b =
     (record { count = λ few. omega arith; places = λ few. places; more = λ many. absurd (omega arith) }))
     (λ long.
     let past : frame-digits ≤ session .unfinished =
-    by-order frame-digits (length bytes) (λ many. omega (arith, spells .more many)) (λ few. omega (arith, spells .count few)) in
+    by-order frame-digits (length bytes) (λ many. omega (arith, spells .more many))
+    (λ few. omega (arith, spells .count few)) in
     subst (λ s. Spells s (bytes ++ (b ∷ []))) (sym (lengthened-long session b past))
     (record { count = λ few. absurd (omega arith); places = λ few. absurd (omega arith); more = λ many. refl }))
 
@@ -160,9 +165,11 @@ spells-asks {session} {bytes} spells =
 -- ---- what a line asks
 
 -- by what a line asks, whatever its bytes: its numbers have 32 bits
-module _ (P : Frame → Type 0) (bad-line : P (Refused BadLine)) (no-kind : P (Refused BadKind)) (not-zero : P (Refused NotZero))
+module _ (P : Frame → Type 0) (bad-line : P (Refused BadLine)) (no-kind : P (Refused BadKind))
+    (not-zero : P (Refused NotZero))
     (grants : (s : ℕ) → s < 16 ^ 8 → P (Grant s)) (releases : (a : ℕ) → a < 16 ^ 8 → P (Release a))
-    (reads : (a n : ℕ) → a < 16 ^ 8 → n < 16 ^ 8 → P (Read a n)) (writes : (a n : ℕ) → a < 16 ^ 8 → n < 16 ^ 8 → P (Write a n)) where
+    (reads : (a n : ℕ) → a < 16 ^ 8 → n < 16 ^ 8 → P (Read a n))
+    (writes : (a n : ℕ) → a < 16 ^ 8 → n < 16 ^ 8 → P (Write a n)) where
   by-numbers : (kind A B : ℕ) → A < 16 ^ 8 → B < 16 ^ 8 → P (frame (fields kind A B))
   by-numbers kind A B fits fits′ =
       by-kind kind A B P

@@ -27,8 +27,8 @@ use Rattle.rules.proofs.Release.{evict-row-weights, evict-oldest-is, settle-don
 use Rattle.rules.proofs.Release.{quarantine-row-lengths, quarantine-row-state, quarantine-row-turn, quarantine-row-own}
 use Rattle.rules.proofs.Release.{quarantine-row-other, quarantine-row-sum, quarantine-row-weights}
 use Rattle.promises.specs.History.{Block, weigh, latest}
-use Rattle.promises.specs.Rows.{_∈_, of-row, RowOf}
-use Rattle.promises.proofs.Laid.{of-row-same}
+use Rattle.promises.specs.Rows.{_∈_, block-of, RowOf}
+use Rattle.promises.proofs.Laid.{block-of-same}
 use Rattle.promises.proofs.Latest.{weigh-nil, weigh-cons, weigh-append, latest-all, latest-last, place-before}
 use Rattle.promises.proofs.Latest.{place-last, place-in, in-place}
 
@@ -39,7 +39,7 @@ pub record Queue (R : ℕ) (table : List ℕ) (blocks : List Block) : Type 0 whe
   pub weighed : weights R table ≡ weigh R blocks
   pub order : (i : ℕ) → i < rows table → state table i ≡ quarantined
       → (0 < turn table i) × (turn table i ≤ length blocks) ×
-      (getElem? blocks (length blocks - turn table i) ≡ some (of-row table i))
+      (getElem? blocks (length blocks - turn table i) ≡ some (block-of table i))
   pub every-turn : (t : ℕ) → 0 < t → t ≤ length blocks
       → (i : ℕ) × (i < rows table) × (state table i ≡ quarantined) × (turn table i ≡ t)
   pub once : (i j : ℕ) → i < rows table → j < rows table → state table i ≡ quarantined → state table j ≡ quarantined
@@ -133,10 +133,10 @@ module _ (R : ℕ) (table : List ℕ) (blocks : List Block) (i p s : ℕ) (below
         order =
             λ j in-rows held.
             let unlike : j ≢ i = put-apart j held in
-            let same : of-row other j ≡ of-row table j =
-            of-row-same other table j (as-it-was start-column j (omega arith) unlike)
+            let same : block-of other j ≡ block-of table j =
+            block-of-same other table j (as-it-was start-column j (omega arith) unlike)
             (as-it-was size-column j (omega arith) unlike) in
-            subst (λ t. Placed blocks t (of-row other j)) (sym (same-turn j held))
+            subst (λ t. Placed blocks t (block-of other j)) (sym (same-turn j held))
             (subst (Placed blocks (turn table j)) (sym same) (q .order j (omega (arith, put-rows)) (before j held)));
         every-turn =
             λ t above upto.
@@ -170,11 +170,11 @@ module _ (R : ℕ) (pool : Pool) (blocks : List Block) (i : ℕ) (below : i < ro
 
   -- it is the latest
   pub queue-quarantine : Queue R (pool .table) blocks
-      → Queue R (quarantine-row pool i .table) (of-row (pool .table) i ∷ blocks)
+      → Queue R (quarantine-row pool i .table) (block-of (pool .table) i ∷ blocks)
   queue-quarantine q =
       let table : List ℕ = pool .table in
       let other : List ℕ = quarantine-row pool i .table in
-      let x : Block = of-row table i in
+      let x : Block = block-of table i in
       let as-it-was : (k j : ℕ) → k < row-numbers → j ≢ i → column k other j ≡ column k table j =
       quarantine-row-other pool i below in
       let own-turn : turn other i ≡ in-quarantine table + 1 = quarantine-row-turn pool i below in
@@ -183,8 +183,12 @@ module _ (R : ℕ) (pool : Pool) (blocks : List Block) (i : ℕ) (below : i < ro
       λ j unlike held. sym (as-it-was state-column j (omega arith) unlike) ∙ held in
       let old-turn : (j : ℕ) → j ≢ i → j < rows other → state other j ≡ quarantined → turn other j ≤ length blocks =
       λ j unlike in-rows held.
-      omega
-      (arith, as-it-was turn-column j (omega arith) unlike, q .order j (omega (arith, quarantine-rows)) (before j unlike held) .1) in
+      omega (
+        arith,
+        as-it-was turn-column j (omega arith) unlike,
+        q .order j (omega (arith, quarantine-rows))
+            (before j unlike held) .1,
+      ) in
       record {
         count = quarantine-count ∙ ap (λ n. n + 1) (q .count) ∙ add-one (length blocks);
         weighed = omega (arith, quarantine-row-weights pool i below R not-yet, q .weighed, weigh-cons R x blocks);
@@ -193,25 +197,26 @@ module _ (R : ℕ) (pool : Pool) (blocks : List Block) (i : ℕ) (below : i < ro
             elim (ℕ-discrete j i) [
               | yes same ↦
                   let in-front : suc (length blocks) - suc (length blocks) ≡ 0 = omega arith in
-                  let own-block : of-row other i ≡ x =
-                  of-row-same other table i
+                  let own-block : block-of other i ≡ x =
+                  block-of-same other table i
                   (quarantine-row-own pool i below start-column (omega arith) (omega arith) (omega arith))
                   (quarantine-row-own pool i below size-column (omega arith) (omega arith) (omega arith)) in
-                  subst (λ k. Placed (x ∷ blocks) (turn other k) (of-row other k)) (sym same)
-                  (subst (λ t. Placed (x ∷ blocks) t (of-row other i)) (sym last-turn)
+                  subst (λ k. Placed (x ∷ blocks) (turn other k) (block-of other k)) (sym same)
+                  (subst (λ t. Placed (x ∷ blocks) t (block-of other i)) (sym last-turn)
                   (omega arith, omega arith, ap (getElem? (x ∷ blocks)) in-front ∙ ap some (sym own-block)))
               | no unlike ↦
-                  let old : Placed blocks (turn table j) (of-row table j) =
+                  let old : Placed blocks (turn table j) (block-of table j) =
                   q .order j (omega (arith, quarantine-rows)) (before j unlike held) in
                   let later : suc (length blocks) - turn table j ≡ suc (length blocks - turn table j) =
                   omega (arith, old .1) in
-                  subst (λ t. Placed (x ∷ blocks) t (of-row other j))
+                  subst (λ t. Placed (x ∷ blocks) t (block-of other j))
                   (sym (as-it-was turn-column j (omega arith) unlike)) (
                     old .0,
                     omega (arith, old .1),
                     ap (getElem? (x ∷ blocks)) later ∙ old .2
                         ∙ ap some
-                        (sym (of-row-same other table j (as-it-was start-column j (omega arith) unlike) (as-it-was size-column j (omega arith) unlike))),
+                        (sym (block-of-same other table j (as-it-was start-column j (omega arith) unlike)
+                        (as-it-was size-column j (omega arith) unlike))),
                   )
             ];
         every-turn =
@@ -240,7 +245,8 @@ module _ (R : ℕ) (pool : Pool) (blocks : List Block) (i : ℕ) (below : i < ro
                     | no unlike′ ↦
                         q .once j k (omega (arith, quarantine-rows)) (omega (arith, quarantine-rows))
                         (before j unlike held) (before k unlike′ held′)
-                        (sym (as-it-was turn-column j (omega arith) unlike) ∙ same ∙ as-it-was turn-column k (omega arith) unlike′)
+                        (sym (as-it-was turn-column j (omega arith) unlike) ∙ same
+                        ∙ as-it-was turn-column k (omega arith) unlike′)
                   ]
             ];
       }
@@ -251,7 +257,7 @@ module _ (R : ℕ) (pool : Pool) (blocks : List Block) (i : ℕ) (below : i < ro
 oldest-turn : (R : ℕ) (table : List ℕ) (blocks : List Block) (i : ℕ) → Oldest table (rows table) i
     → Queue R table blocks → turn table i ≡ 1
 oldest-turn R table blocks i o q =
-    let own : Placed blocks (turn table i) (of-row table i) =
+    let own : Placed blocks (turn table i) (block-of table i) =
     q .order i (o .below) (eqb-true (state table i) quarantined (o .held)) in
     let first : HasTurn table 1 = q .every-turn 1 (omega arith) (omega (arith, own .0, own .1)) in
     omega
@@ -264,15 +270,20 @@ module _ (R : ℕ) (pool : Pool) (rest : List Block) (i : ℕ) (o : Oldest (pool
   -- no quarantined row is the one that was evicted
   evicted-apart : (j : ℕ) → state (evict-row pool i .table) j ≡ quarantined → j ≢ i
   evicted-apart j held same =
-      omega
-      (arith, evict-row-empty pool i (o .below) state-column (omega arith), ap (state (evict-row pool i .table)) (sym same) ∙ held)
+      omega (
+        arith,
+        evict-row-empty pool i (o .below) state-column (omega arith),
+        ap (state (evict-row pool i .table))
+            (sym same) ∙ held,
+      )
 
   -- of blocks with the oldest at the end, those before it are left
-  queue-before : Queue R (pool .table) (rest ++ (of-row (pool .table) i ∷ [])) → Queue R (evict-row pool i .table) rest
+  queue-before : Queue R (pool .table) (rest ++ (block-of (pool .table) i ∷ []))
+      → Queue R (evict-row pool i .table) rest
   queue-before q =
       let table : List ℕ = pool .table in
       let other : List ℕ = evict-row pool i .table in
-      let y : Block = of-row table i in
+      let y : Block = block-of table i in
       let blocks : List Block = rest ++ (y ∷ []) in
       let longer : length blocks ≡ length rest + 1 = length-append rest (y ∷ []) in
       let alone : weigh R (y ∷ []) ≡ weight R (y .size) = omega (arith, weigh-cons R y [], weigh-nil R) in
@@ -282,7 +293,8 @@ module _ (R : ℕ) (pool : Pool) (rest : List Block) (i : ℕ) (o : Oldest (pool
       let held-own : state table i ≡ quarantined = eqb-true (state table i) quarantined (o .held) in
       let before : (j : ℕ) → state other j ≡ quarantined → state table j ≡ quarantined =
       λ j held. sym (as-it-was state-column j (omega arith) (omega arith) (evicted-apart j held)) ∙ held in
-      let old : (j : ℕ) → j < rows other → state other j ≡ quarantined → Placed blocks (turn table j) (of-row table j) =
+      let old : (j : ℕ) → j < rows other → state other j ≡ quarantined
+      → Placed blocks (turn table j) (block-of table j) =
       λ j in-rows held. q .order j (omega (arith, evicted-rows)) (before j held) in
       let lessened-turn : (j : ℕ) → j < rows other → state other j ≡ quarantined → turn other j ≡ turn table j - 1 =
       λ j in-rows held. evict-row-turn pool i (o .below) j (omega (arith, evicted-rows)) (evicted-apart j held) in
@@ -293,20 +305,21 @@ module _ (R : ℕ) (pool : Pool) (rest : List Block) (i : ℕ) (o : Oldest (pool
         order =
             λ j in-rows held.
             let unlike : j ≢ i = evicted-apart j held in
-            let placed : Placed blocks (turn table j) (of-row table j) = old j in-rows held in
+            let placed : Placed blocks (turn table j) (block-of table j) = old j in-rows held in
             let not-first : turn table j ≢ 1 =
             λ first. unlike
             (q .once j i (omega (arith, evicted-rows)) (o .below) (before j held) held-own (first ∙ sym first-turn)) in
             let second : 1 < turn table j = omega (arith, placed .0) in
             let same-place : length rest - (turn table j - 1) ≡ length blocks - turn table j = omega arith in
-            subst (λ t. Placed rest t (of-row other j)) (sym (lessened-turn j in-rows held)) (
+            subst (λ t. Placed rest t (block-of other j)) (sym (lessened-turn j in-rows held)) (
               omega arith,
               omega (arith, placed .1),
               sym (place-before rest (y ∷ []) (length rest - (turn table j - 1)) (omega (arith, placed .1)))
                   ∙ ap (getElem? blocks) same-place
                   ∙ placed .2
                   ∙ ap some
-                  (sym (of-row-same other table j (as-it-was start-column j (omega arith) (omega arith) unlike) (as-it-was size-column j (omega arith) (omega arith) unlike))),
+                  (sym (block-of-same other table j (as-it-was start-column j (omega arith) (omega arith) unlike)
+                  (as-it-was size-column j (omega arith) (omega arith) unlike))),
             );
         every-turn =
             λ t above upto.
@@ -320,19 +333,26 @@ module _ (R : ℕ) (pool : Pool) (rest : List Block) (i : ℕ) (o : Oldest (pool
         once =
             λ j k in-rows in-rows′ held held′ same.
             q .once j k (omega (arith, evicted-rows)) (omega (arith, evicted-rows)) (before j held) (before k held′)
-            (omega (arith, same, lessened-turn j in-rows held, lessened-turn k in-rows′ held′, old j in-rows held .0, old k in-rows′ held′ .0));
+            (omega (
+              arith,
+              same,
+              lessened-turn j in-rows held,
+              lessened-turn k in-rows′ held′,
+              old j in-rows held .0,
+              old k in-rows′ held′ .0,
+            ));
       }
 
 -- it is the last
 queue-evict : (R : ℕ) (pool : Pool) (blocks : List Block) (i : ℕ) → Oldest (pool .table) (rows (pool .table)) i
     → Queue R (pool .table) blocks
-    → (rest : List Block) × (blocks ≡ rest ++ (of-row (pool .table) i ∷ [])) × Queue R (evict-row pool i .table) rest
+    → (rest : List Block) × (blocks ≡ rest ++ (block-of (pool .table) i ∷ [])) × Queue R (evict-row pool i .table) rest
 queue-evict R pool blocks i o q =
     let table : List ℕ = pool .table in
-    let own : Placed blocks (turn table i) (of-row table i) =
+    let own : Placed blocks (turn table i) (block-of table i) =
     q .order i (o .below) (eqb-true (state table i) quarantined (o .held)) in
-    let ends : (rest : List Block) × (blocks ≡ rest ++ (of-row table i ∷ [])) =
-    place-last blocks (of-row table i)
+    let ends : (rest : List Block) × (blocks ≡ rest ++ (block-of table i ∷ [])) =
+    place-last blocks (block-of table i)
     (ap (λ t. getElem? blocks (length blocks - t)) (sym (oldest-turn R table blocks i o q)) ∙ own .2) in
     (ends .0, ends .1, queue-before R pool (ends .0) i o (subst (Queue R table) (ends .1) q))
 
@@ -352,7 +372,7 @@ queue-settle R Q =
     let i : ℕ = some-oldest R Q (pool .table) heavy .0 in
     let e : oldest (pool .table) (rows (pool .table)) ≡ some i = some-oldest R Q (pool .table) heavy .1 in
     let o : Oldest (pool .table) (rows (pool .table)) i = oldest-some (pool .table) (rows (pool .table)) i e in
-    let y : Block = of-row (pool .table) i in
+    let y : Block = block-of (pool .table) i in
     let left : (rest : List Block) × (blocks ≡ rest ++ (y ∷ [])) × Queue R (evict-row pool i .table) rest =
     queue-evict R pool blocks i o q in
     let same : latest R Q (left .0) ≡ latest R Q blocks =
@@ -375,12 +395,12 @@ queue-row R table blocks q y m =
       found .0,
       found .1,
       found .2,
-      Option·some-injective (of-row table (found .0)) y
+      Option·some-injective (block-of table (found .0)) y
           (sym (q .order (found .0) (found .1) (found .2) .2) ∙ ap (getElem? blocks) same-place ∙ at .2),
     )
 
 -- and the block of each quarantined row is one of them
 pub queue-block : (R : ℕ) (table : List ℕ) (blocks : List Block) → Queue R table blocks
-    → (i : ℕ) → i < rows table → state table i ≡ quarantined → of-row table i ∈ blocks
+    → (i : ℕ) → i < rows table → state table i ≡ quarantined → block-of table i ∈ blocks
 queue-block R table blocks q i below held =
-    place-in blocks (length blocks - turn table i) (of-row table i) (q .order i below held .2)
+    place-in blocks (length blocks - turn table i) (block-of table i) (q .order i below held .2)

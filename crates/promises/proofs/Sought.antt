@@ -31,7 +31,7 @@ use Rattle.promises.specs.History.{held}
 use Rattle.promises.specs.History.{nothing-sought, sought-by, seeks, Granted, grants-at, releases-at, did, events}
 use Rattle.promises.specs.History.{History, happens, happen, heard, heard-all}
 use Rattle.promises.specs.Replay.{session, history, live-at, quarantine-at, held-at}
-use Rattle.promises.specs.Rows.{_∈_, past, Apart, Free, Starts, HeldRow, of-row, RowOf, in-use}
+use Rattle.promises.specs.Rows.{_∈_, past, Apart, Free, Starts, HeldRow, block-of, RowOf, in-use}
 use Rattle.promises.specs.Sought.{Theirs, ReleasedBy, Releases, RoomAt, LowestOf, PlacedBy, Placement, DoneBy}
 use Rattle.promises.specs.Sought.{AllSought, ReleasesNothing}
 use Rattle.promises.proofs.History.{release-seeks, release-seeks-nothing, did-grant, did-release, events-done}
@@ -59,9 +59,9 @@ module _ {S R Q : ℕ} {shadow table : List ℕ} {h : History} (stands : Stands 
         high = omega (arith, fits .high, stands .standing .laid .of-shadow);
       };
       apart = λ y m.
-          let row : (i : ℕ) × HeldRow table i × (of-row table i ≡ y) = held-row stands y m in
+          let row : (i : ℕ) × HeldRow table i × (block-of table i ≡ y) = held-row stands y m in
           subst (Apart R (block (granule * p) s)) (row .2)
-          (⊎-elim {C = Apart R (block (granule * p) s) (of-row table (row .0))}
+          (⊎-elim {C = Apart R (block (granule * p) s) (block-of table (row .0))}
           (λ left. inr (omega arith)) (λ right. inl (omega arith))
           (fits-clear (stands .standing .laid) (granules s) p (granules-above s sized) fits (row .0) (row .1)));
     }
@@ -73,7 +73,8 @@ module _ {S R Q : ℕ} {shadow table : List ℕ} {h : History} (stands : Stands 
         (omega (arith, free .inside .high))
         (λ j own.
         ⊎-elim {C = (ends table j + R ≤ p) ⊎ (p + granules s + R ≤ start table j)}
-        (λ left. inr (omega arith)) (λ right. inl (omega arith)) (free .apart (of-row table j) (row-held stands j own)))
+        (λ left. inr (omega arith)) (λ right. inl (omega arith))
+        (free .apart (block-of table j) (row-held stands j own)))
 
 -- ---- what a line meets
 
@@ -232,7 +233,7 @@ module _ {S n R Q : ℕ} {h : History} {x : Exchange} (m : Moment (Holds S n R Q
     unfolding release-row
     evicted-of i found =
         let pool : Pool = record { shadow = m .st .pool .shadow; table = m .st .pool .table } in
-        let entered : Queue R (quarantine-row pool i .table) (of-row (pool .table) i ∷ latest R Q (h .released)) =
+        let entered : Queue R (quarantine-row pool i .table) (block-of (pool .table) i ∷ latest R Q (h .released)) =
         queue-quarantine R pool (latest R Q (h .released)) i (found .below) (found .has) (m .holds .stands .queue) in
         ap Done
         (omega (
@@ -255,13 +256,16 @@ module _ {S n R Q : ℕ} {h : History} {x : Exchange} (m : Moment (Holds S n R Q
         (λ s. ⊎-elim {C = ⊥} (none-live no-live) (none-quarantined no-quarantined) (starts-of (h .live) blocks a s)))
         (λ not-zero no-live i e is.
         let found : StartsAt quarantined table a i = row-at-some quarantined table a i e in
-        twice a seeks-block (says-status is)
-        (of-row table i, queue-block R table blocks (m .holds .stands .queue) i (found .below) (found .has), found .at)
+        twice a seeks-block (says-status is) (
+          block-of table i,
+          queue-block R table blocks (m .holds .stands .queue) i (found .below) (found .has),
+          found .at,
+        )
         (none-live no-live))
         (λ not-zero i e is.
         let found : StartsAt live table a i = row-at-some live table a i e in
         let starts : Starts (h .live) a =
-        (of-row table i, m .holds .stands .standing .lives .listed i (found .below) (found .has), found .at) in
+        (block-of table i, m .holds .stands .standing .lives .listed i (found .below) (found .has), found .at) in
         all-there (says-status is)
         (λ c seeks-c. subst (Starts (h .live)) (one-status seeks-block seeks-c) starts)
         (λ s seeks-s. absurd (not-both (ap (λ sought. sought .room) seeks-alone) seeks-s))
@@ -301,7 +305,8 @@ module _ {S n R Q : ℕ} {h : History} {x : Exchange} (m : Moment (Holds S n R Q
   at-zero e =
       acted-on m (Release 0) e
       ∙ ap outcome
-      (release-nothing (m .st .session .redzone) (m .st .session .quarantine) (m .st .pool .shadow) (m .st .pool .table))
+      (release-nothing (m .st .session .redzone) (m .st .session .quarantine) (m .st .pool .shadow)
+      (m .st .pool .table))
 
   pub finding : Finding S n R Q h x
   unfolding asks act sought-by status in-numbers

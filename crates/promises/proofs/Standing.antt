@@ -26,10 +26,10 @@ use Rattle.rules.proofs.Release.{Oldest, if-quarantined-no, if-quarantined-same
 use Rattle.rules.proofs.Release.{evict-row-rows, evict-row-empty, evict-row-other, evict-row-count}
 use Rattle.rules.proofs.Release.{quarantine-row-lengths, quarantine-row-state, quarantine-row-other, quarantine-row-sum}
 use Rattle.promises.specs.History.{Block, block, others}
-use Rattle.promises.specs.Rows.{_∈_, Distinct, HeldRow, of-row, RowOf, use-of, in-use}
+use Rattle.promises.specs.Rows.{_∈_, Distinct, HeldRow, block-of, RowOf, use-of, in-use}
 use Rattle.promises.proofs.Blocks.{distinct-nil, distinct-cons, distinct-others, others-of, others-in}
 use Rattle.promises.proofs.Blocks.{length-others}
-use Rattle.promises.proofs.Laid.{Laid, each-row, of-row-same}
+use Rattle.promises.proofs.Laid.{Laid, each-row, block-of-same}
 use Rattle.promises.proofs.Kept.{fits-clear, laid-grant, laid-quarantine, laid-evict}
 
 -- ---- the rows in use
@@ -109,7 +109,7 @@ in-quarantine-same table table′ i same-rows same not-was not-now =
 
 pub record LiveRows (table : List ℕ) (blocks : List Block) : Type 0 where
   pub row : (x : Block) → x ∈ blocks → RowOf table live x
-  pub listed : (i : ℕ) → i < rows table → state table i ≡ live → of-row table i ∈ blocks
+  pub listed : (i : ℕ) → i < rows table → state table i ≡ live → block-of table i ∈ blocks
   pub distinct : Distinct blocks
 
 pub live-none : (table : List ℕ) → ((i : ℕ) → i < rows table → state table i ≢ live) → LiveRows table []
@@ -131,10 +131,10 @@ live-put table blocks i p s below not-live new lives =
     column-put-row table i (granted-row p s) below in
     let other : (k j : ℕ) → k < row-numbers → j ≢ i → column k table′ j ≡ column k table j =
     column-put-row-other table i (granted-row p s) below in
-    let own-block : of-row table′ i ≡ block (granule * p) s =
+    let own-block : block-of table′ i ≡ block (granule * p) s =
     ap₂ (λ a b. block (granule * a) b) (own start-column (omega arith)) (own size-column (omega arith)) in
-    let same-block : (j : ℕ) → j ≢ i → of-row table′ j ≡ of-row table j =
-    λ j differ. of-row-same table′ table j (other start-column j (omega arith) differ)
+    let same-block : (j : ℕ) → j ≢ i → block-of table′ j ≡ block-of table j =
+    λ j differ. block-of-same table′ table j (other start-column j (omega arith) differ)
     (other size-column j (omega arith) differ) in
     record {
       row = λ x m.
@@ -142,15 +142,22 @@ live-put table blocks i p s below not-live new lives =
           (λ e. (i, omega (arith, same-rows), own state-column (omega arith), own-block ∙ sym e))
           (λ later.
           let was : RowOf table live x = lives .row x later in
-          let differ : was .0 ≢ i = λ e. not-live (ap (state table) (sym e) ∙ was .2) in
-          (was .0, omega (arith, same-rows, was .1), other state-column (was .0) (omega arith) differ ∙ was .2, same-block (was .0) differ ∙ was .3))
+          let differ : was .0 ≢ i = λ e. not-live (ap (state table) (sym e) ∙ was .2) in (
+            was .0,
+            omega (arith, same-rows, was .1),
+            other state-column (was .0) (omega arith) differ
+                ∙ was .2,
+            same-block (was .0) differ ∙ was .3,
+          ))
           (List·Memᴰ·cases-cons m);
       listed =
-          each-row i (λ j. j < rows table′ → state table′ j ≡ live → of-row table′ j ∈ (block (granule * p) s ∷ blocks))
+          each-row i (λ j. j < rows table′ → state table′ j ≡ live → block-of table′ j
+          ∈ (block (granule * p) s ∷ blocks))
           (λ b is. List·Memᴰ·head own-block)
           (λ j differ b is.
           List·Memᴰ·tail
-          (Memᴰ·cast (same-block j differ) (lives .listed j (omega (arith, same-rows)) (sym (other state-column j (omega arith) differ) ∙ is))));
+          (Memᴰ·cast (same-block j differ)
+          (lives .listed j (omega (arith, same-rows)) (sym (other state-column j (omega arith) differ) ∙ is))));
       distinct = distinct-cons (block (granule * p) s) blocks new (lives .distinct);
     }
 
@@ -158,9 +165,9 @@ live-put table blocks i p s below not-live new lives =
 module _ (table table′ : List ℕ) (i : ℕ) (same-rows : rows table′ ≡ rows table)
     (other : (k j : ℕ) → k < row-numbers → k ≢ turn-column → j ≢ i → column k table′ j ≡ column k table j)
     (not-now : state table′ i ≢ live) (blocks : List Block) where
-  same-block : (j : ℕ) → j ≢ i → of-row table′ j ≡ of-row table j
+  same-block : (j : ℕ) → j ≢ i → block-of table′ j ≡ block-of table j
   same-block j differ =
-      of-row-same table′ table j (other start-column j (omega arith) (omega arith) differ)
+      block-of-same table′ table j (other start-column j (omega arith) (omega arith) differ)
       (other size-column j (omega arith) (omega arith) differ)
 
   -- it was not live, nor is it now
@@ -168,14 +175,20 @@ module _ (table table′ : List ℕ) (i : ℕ) (same-rows : rows table′ ≡ ro
   live-other not-live lives = record {
     row = λ x m.
         let was : RowOf table live x = lives .row x m in
-        let differ : was .0 ≢ i = λ e. not-live (ap (state table) (sym e) ∙ was .2) in
-        (was .0, omega (arith, same-rows, was .1), other state-column (was .0) (omega arith) (omega arith) differ ∙ was .2, same-block (was .0) differ ∙ was .3);
+        let differ : was .0 ≢ i = λ e. not-live (ap (state table) (sym e) ∙ was .2) in (
+          was .0,
+          omega (arith, same-rows, was .1),
+          other state-column (was .0) (omega arith) (omega arith) differ
+              ∙ was .2,
+          same-block (was .0) differ ∙ was .3,
+        );
     listed =
-        each-row i (λ j. j < rows table′ → state table′ j ≡ live → of-row table′ j ∈ blocks)
+        each-row i (λ j. j < rows table′ → state table′ j ≡ live → block-of table′ j ∈ blocks)
         (λ b is. absurd (not-now is))
         (λ j differ b is.
         Memᴰ·cast (same-block j differ)
-        (lives .listed j (omega (arith, same-rows)) (sym (other state-column j (omega arith) (omega arith) differ) ∙ is)));
+        (lives .listed j (omega (arith, same-rows))
+        (sym (other state-column j (omega arith) (omega arith) differ) ∙ is)));
     distinct = lives .distinct;
   }
 
@@ -188,16 +201,21 @@ module _ (table table′ : List ℕ) (i : ℕ) (same-rows : rows table′ ≡ ro
         let was : RowOf table live x = lives .row x (others-of a blocks x m .0) in
         let differ : was .0 ≢ i =
         λ e. others-of a blocks x m .1
-        (ap (λ y. y .address) (sym (was .3)) ∙ ap (λ j. granule * start table j) e ∙ at-a) in
-        (was .0, omega (arith, same-rows, was .1), other state-column (was .0) (omega arith) (omega arith) differ ∙ was .2, same-block (was .0) differ ∙ was .3);
+        (ap (λ y. y .address) (sym (was .3)) ∙ ap (λ j. granule * start table j) e ∙ at-a) in (
+          was .0,
+          omega (arith, same-rows, was .1),
+          other state-column (was .0) (omega arith) (omega arith) differ
+              ∙ was .2,
+          same-block (was .0) differ ∙ was .3,
+        );
     listed =
-        each-row i (λ j. j < rows table′ → state table′ j ≡ live → of-row table′ j ∈ others a blocks)
+        each-row i (λ j. j < rows table′ → state table′ j ≡ live → block-of table′ j ∈ others a blocks)
         (λ b is. absurd (not-now is))
         (λ j differ b is.
         let in-rows : j < rows table = omega (arith, same-rows) in
         let was : state table j ≡ live = sym (other state-column j (omega arith) (omega arith) differ) ∙ is in
         Memᴰ·cast (same-block j differ)
-        (others-in a blocks (of-row table j) (lives .listed j in-rows was) (only j in-rows differ was)));
+        (others-in a blocks (block-of table j) (lives .listed j in-rows was) (only j in-rows differ was)));
     distinct = distinct-others a blocks (lives .distinct);
   }
 
@@ -269,7 +287,7 @@ module _ {S R : ℕ} (pool : Pool) where
       let other : (k j : ℕ) → k < row-numbers → k ≢ turn-column → j ≢ i → column k table′ j ≡ column k table j =
       λ k j in-row no-turn differ. quarantine-row-other pool i below k j in-row differ in
       let now-is : state table′ i ≡ quarantined = quarantine-row-state pool i below in
-      let listed : of-row table i ∈ blocks = standing .lives .listed i below is in
+      let listed : block-of table i ∈ blocks = standing .lives .listed i below is in
       let change : in-use table + use-of table′ i ≡ in-use table′ + use-of table i =
       use-change table table′ i below same-rows (λ j differ. other state-column j (omega arith) (omega arith) differ) in
       let now : use-of table′ i ≡ 1 = use-other table′ i (λ e. absurd (omega arith)) in
@@ -283,8 +301,12 @@ module _ {S R : ℕ} (pool : Pool) where
             starts-apart (standing .laid) j i (record { below = in-rows; has = inl live· }) h differ (omega arith))
             (standing .lives);
         used =
-            omega
-            (arith, standing .used, length-others a blocks (of-row table i) (standing .lives .distinct) listed at-a, quarantine-row-sum pool i below (λ _. 1) (ne-eqb (state table i) quarantined (λ e. absurd (omega arith))));
+            omega (
+              arith,
+              standing .used,
+              length-others a blocks (block-of table i) (standing .lives .distinct) listed at-a,
+              quarantine-row-sum pool i below (λ _. 1) (ne-eqb (state table i) quarantined (λ e. absurd (omega arith))),
+            );
       }
 
   -- the oldest is evicted

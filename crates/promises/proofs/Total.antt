@@ -1,4 +1,5 @@
--- Demand 1: every call answers a number that is its own, and a refusal changes nothing; read off the laws of `rules`. Assumes nothing.
+-- Demand 1: every call answers a number that is its own, and a refusal changes nothing; read off the laws of `rules`.
+-- Assumes nothing.
 use Prim.Native.Nat.{ℕ}
 use mathlib.Core.Path.{_≡_, refl, sym, ap, ap₂, subst, _∙_}
 use mathlib.Core.Bool.{Bool, true, false, false≢true, _||_}
@@ -34,9 +35,11 @@ module _ (P : ℕ → Type 0) (done : P 0) where
   grant-number : P 5 → P 6 → (R : ℕ) (shadow table : List ℕ) (s : ℕ) → P (status (grant R shadow table s .answer))
   unfolding grant-at status in-numbers
   grant-number no-row no-place R shadow table s =
-      by-grant R shadow table s (λ acted. P (status (acted .answer))) (λ full. no-row) (λ i row nowhere. no-place) (λ i p row at. done)
+      by-grant R shadow table s (λ acted. P (status (acted .answer))) (λ full. no-row) (λ i row nowhere. no-place)
+      (λ i p row at. done)
 
-  release-number : P 7 → P 8 → (R Q : ℕ) (shadow table : List ℕ) (a : ℕ) → P (status (release R Q shadow table a .answer))
+  release-number : P 7 → P 8 → (R Q : ℕ) (shadow table : List ℕ) (a : ℕ)
+      → P (status (release R Q shadow table a .answer))
   unfolding release-row status in-numbers
   release-number foreign twice R Q shadow table a =
       by-release R Q shadow table a (λ acted. P (status (acted .answer)))
@@ -50,17 +53,21 @@ module _ (P : ℕ → Type 0) (done : P 0) where
       (λ e. subst (λ answer. P (status answer)) (sym (access-good shadow a n e)) done)
 
 -- a choice has what both of its ways have
-either {ℓ κ} : {A : Type ℓ} (P : A → Type κ) (t : Bool) {a b : A} → P a → P b → P (elim t as (λ _. A) [ true ↦ a | false ↦ b ])
+either {ℓ κ} : {A : Type ℓ} (P : A → Type κ) (t : Bool) {a b : A} → P a → P b
+    → P (elim t as (λ _. A) [ true ↦ a | false ↦ b ])
 either P true p q = p
 either P false p q = q
 
 -- a line's answer, as a number
-line-number : (P : ℕ → Type 0) → P 0 → P 1 → P 2 → P 3 → P 5 → P 6 → P 7 → P 8 → P 9 → (st : State Pool) → P (status (act-line watcher st .answer))
+line-number : (P : ℕ → Type 0) → P 0 → P 1 → P 2 → P 3 → P 5 → P 6 → P 7 → P 8 → P 9 → (st : State Pool)
+    → P (status (act-line watcher st .answer))
 unfolding act-line act status in-numbers
 line-number P done no-line no-kind not-zero no-row no-place foreign twice bad st =
-    by-line (λ k. P (status (act (st .session) (st .pool .shadow) (st .pool .table) k .answer))) no-line no-kind not-zero
+    by-line (λ k. P (status (act (st .session) (st .pool .shadow)
+    (st .pool .table) k .answer))) no-line no-kind not-zero
     (λ s fits. grant-number P done no-row no-place (st .session .redzone) (st .pool .shadow) (st .pool .table) s)
-    (λ a fits. release-number P done foreign twice (st .session .redzone) (st .session .quarantine) (st .pool .shadow) (st .pool .table) a)
+    (λ a fits. release-number P done foreign twice (st .session .redzone) (st .session .quarantine) (st .pool .shadow)
+    (st .pool .table) a)
     (λ a n fits fits′. access-number P done bad (st .pool .shadow) a n)
     (λ a n fits fits′. access-number P done bad (st .pool .shadow) a n)
     (st .session .unfinished) (st .session .line)
@@ -116,9 +123,11 @@ total = record {
       either (λ (answer : CallAnswer). call-status answer ∈ (0 ∷ 24 ∷ [])) (within-limits session)
       (one-of refl) (one-of refl);
   feed = λ session shadow table piece room.
-      either (λ (fed : FedWith Pool). fed .given .status ∈ (0 ∷ 24 ∷ [])) (fits-lent session shadow table) (one-of refl) (one-of refl);
+      either (λ (fed : FedWith Pool). fed .given .status ∈ (0 ∷ 24 ∷ [])) (fits-lent session shadow table) (one-of refl)
+      (one-of refl);
   line = line-number (λ n. n ∈ (0 ∷ 1 ∷ 2 ∷ 3 ∷ 5 ∷ 6 ∷ 7 ∷ 8 ∷ 9 ∷ []))
-      (one-of refl) (one-of refl) (one-of refl) (one-of refl) (one-of refl) (one-of refl) (one-of refl) (one-of refl) (one-of refl);
+      (one-of refl) (one-of refl) (one-of refl) (one-of refl) (one-of refl) (one-of refl) (one-of refl) (one-of refl)
+      (one-of refl);
   map = λ map a. map-number (λ n. n ∈ (0 ∷ 31 ∷ 32 ∷ [])) (one-of refl) (one-of refl) (one-of refl) (region map a);
 }
 
@@ -133,9 +142,11 @@ refusals-keep = record {
   release = release-call-refused;
   feed = λ session shadow table piece room refused.
       by-test (fits-lent session shadow table)
-      (λ fits. absurd (refused (ap (λ fed. fed .given .status) (feed-done watcher session (pool-of shadow table) piece room fits))))
+      (λ fits. absurd (refused (ap (λ fed. fed .given .status)
+      (feed-done watcher session (pool-of shadow table) piece room fits))))
       (λ not. feed-24 watcher session (pool-of shadow table) piece room not);
   line = λ st refused.
-      let same : (finish watcher st .state .pool .shadow ≡ st .pool .shadow) × (finish watcher st .state .pool .table ≡ st .pool .table) = finish-refused st refused in
+      let same : (finish watcher st .state .pool .shadow ≡ st .pool .shadow)
+      × (finish watcher st .state .pool .table ≡ st .pool .table) = finish-refused st refused in
       ap₂ (λ shadow table. state-of (emptied (st .session)) shadow table) (same .0) (same .1);
 }

@@ -11,7 +11,7 @@ use Rattle.rules.specs.Limits.{empty, live, quarantined}
 use Rattle.rules.specs.Table.{rows, size, state, turn, row-of, zero-row}
 use Rattle.rules.specs.Release.{in-quarantine, weights}
 use Rattle.promises.specs.History.{Block, has-byte, History, weigh, latest}
-use Rattle.promises.specs.Rows.{_∈_, Apart, Inside, Distinct, HeldRow, of-row, RowOf, in-use, drawn}
+use Rattle.promises.specs.Rows.{_∈_, Apart, Inside, Distinct, HeldRow, block-of, RowOf, in-use, drawn}
 
 -- a row is empty, live or quarantined; an empty row is all zeros, a held one has at least one byte, a live one has turn
 -- 0, and the quarantined ones have the turns from 1 on, each once; no two held blocks share a byte; and the shadow is
@@ -29,13 +29,13 @@ pub record ShapedAs (S : ℕ) (shadow table : List ℕ) : Type 0 where
   pub once : (i j : ℕ) → i < rows table → j < rows table
       → state table i ≡ quarantined → state table j ≡ quarantined → turn table i ≡ turn table j → i ≡ j
   pub no-overlap : (i j : ℕ) → HeldRow table i → HeldRow table j → i ≢ j
-      → (b : ℕ) → has-byte (of-row table i) b ≡ true → has-byte (of-row table j) b ≡ false
+      → (b : ℕ) → has-byte (block-of table i) b ≡ true → has-byte (block-of table j) b ≡ false
   pub shadow-is : shadow ≡ drawn table S 0
 
 -- held blocks are a redzone apart: of any two rows, and of each row and both ends of the arena
 pub record SeparatedIn (S R : ℕ) (table : List ℕ) : Type 0 where
-  pub apart : (i j : ℕ) → HeldRow table i → HeldRow table j → i ≢ j → Apart R (of-row table i) (of-row table j)
-  pub inside : (i : ℕ) → HeldRow table i → Inside S R (of-row table i)
+  pub apart : (i j : ℕ) → HeldRow table i → HeldRow table j → i ≢ j → Apart R (block-of table i) (block-of table j)
+  pub inside : (i : ℕ) → HeldRow table i → Inside S R (block-of table i)
 
 -- the live rows are the live blocks, each listed once, the quarantined rows those in quarantine, and as many blocks are
 -- held as rows are in use; so no row is empty exactly when as many blocks are held as there are rows
@@ -52,7 +52,7 @@ pub record QuarantinedIn (R : ℕ) (table : List ℕ) (blocks : List Block) : Ty
   pub weighed : weights R table ≡ weigh R blocks
   pub order : (i : ℕ) → i < rows table → state table i ≡ quarantined
       → (0 < turn table i) × (turn table i ≤ length blocks)
-      × (getElem? blocks (length blocks - turn table i) ≡ some (of-row table i))
+      × (getElem? blocks (length blocks - turn table i) ≡ some (block-of table i))
 
 -- all of it, of an arena of S granules with the redzone R: live are the blocks granted and not yet released, and in
 -- quarantine is the longest run of latest releases that weigh at most Q

@@ -55,12 +55,12 @@ pub record HeldRow (table : List ℕ) (i : ℕ) : Type 0 where
   pub has : (state table i ≡ live) ⊎ (state table i ≡ quarantined)
 
 -- the block of row i
-abbrev pub of-row : List ℕ → ℕ → Block
-of-row table i = record { address = granule * start table i; size = size table i }
+abbrev pub block-of : List ℕ → ℕ → Block
+block-of table i = record { address = granule * start table i; size = size table i }
 
 -- one of the rows in a state has that block
 abbrev pub RowOf : List ℕ → ℕ → Block → Type 0
-RowOf table wanted x = (i : ℕ) × (i < rows table) × (state table i ≡ wanted) × (of-row table i ≡ x)
+RowOf table wanted x = (i : ℕ) × (i < rows table) × (state table i ≡ wanted) × (block-of table i ≡ x)
 
 -- the rows that are not empty
 unfoldable pub use-of : List ℕ → ℕ → ℕ

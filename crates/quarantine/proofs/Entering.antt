@@ -1,5 +1,5 @@
--- A row that enters the quarantine is the oldest, or the one that was stays so: by their turns, and on equal turns by the rows.
--- Assumes nothing.
+-- A row that enters the quarantine is the oldest, or the one that was stays so: by their turns, and on equal turns by
+-- the rows. Assumes nothing.
 use Prim.Native.Nat.{ℕ, _≤_, _<_}
 use native.Mathlib.Omega.{arith}
 use mathlib.Core.Path.{_≡_, refl, sym, ap, _∙_}
@@ -15,7 +15,8 @@ use Rattle.rules.specs.Table.{rows, turn, is-quarantined}
 use Rattle.rules.specs.Release.{oldest, Pool, quarantine-row}
 use Rattle.rules.proofs.Tests.{by-found, by-order, if-true, if-false}
 use Rattle.rules.proofs.Table.{rows-same}
-use Rattle.rules.proofs.Release.{Oldest, oldest-some, quarantine-row-lengths, quarantine-row-other, quarantine-row-alone, quarantine-row-oldest, quarantine-row-younger}
+use Rattle.rules.proofs.Release.{Oldest, oldest-some, quarantine-row-lengths, quarantine-row-other}
+use Rattle.rules.proofs.Release.{quarantine-row-alone, quarantine-row-oldest, quarantine-row-younger}
 use Rattle.quarantine.specs.Quarantine.{first-to-leave}
 
 module _ (table : List ℕ) (i k : ℕ) where
@@ -26,7 +27,8 @@ module _ (table : List ℕ) (i k : ℕ) where
   pub leaves-higher : turn table k < turn table i → first-to-leave table i (One k) ≡ One k
   unfolding first-to-leave
   leaves-higher more =
-      if-false _ _ (le-ltb (turn table i) (turn table k) (omega arith)) ∙ if-true _ _ (lt-ltb (turn table k) (turn table i) more)
+      if-false _ _ (le-ltb (turn table i) (turn table k) (omega arith))
+      ∙ if-true _ _ (lt-ltb (turn table k) (turn table i) more)
 
   module _ (at-most : turn table i ≤ turn table k) (at-least : turn table k ≤ turn table i) where
     pub leaves-first : i < k → first-to-leave table i (One k) ≡ One i
@@ -47,12 +49,14 @@ pub leaves-alone : (table : List ℕ) (i : ℕ) → first-to-leave table i Nothi
 unfolding first-to-leave
 leaves-alone table i = refl
 
-module _ (pool : Pool) (i : ℕ) (below : i < rows (pool .table)) (not-held : is-quarantined (pool .table) i ≡ false) where
+module _ (pool : Pool) (i : ℕ) (below : i < rows (pool .table))
+    (not-held : is-quarantined (pool .table) i ≡ false) where
   abbrev after : List ℕ
   after = quarantine-row pool i .table
 
   -- against the oldest before it
-  against : (k : ℕ) → oldest (pool .table) (rows (pool .table)) ≡ some k → first-to-leave after i (One k) ≡ answered (oldest after (rows (pool .table)))
+  against : (k : ℕ) → oldest (pool .table) (rows (pool .table)) ≡ some k → first-to-leave after i (One k)
+      ≡ answered (oldest after (rows (pool .table)))
   against k e =
       let o : Oldest (pool .table) (rows (pool .table)) k = oldest-some (pool .table) (rows (pool .table)) k e in
       let apart : k ≢ i = λ same. true≢false (sym (o .held) ∙ ap (is-quarantined (pool .table)) same ∙ not-held) in
@@ -76,9 +80,12 @@ module _ (pool : Pool) (i : ℕ) (below : i < rows (pool .table)) (not-held : is
       leaves-second after i k equal more second
       ∙ sym (ap answered (quarantine-row-younger pool i below k e apart (omega arith) (λ b. absurd (omega arith)))))))
 
-  pub entered-oldest : first-to-leave after i (answered (oldest (pool .table) (rows (pool .table)))) ≡ answered (oldest after (rows after))
+  pub entered-oldest : first-to-leave after i (answered (oldest (pool .table) (rows (pool .table))))
+      ≡ answered (oldest after (rows after))
   entered-oldest =
       by-found (oldest (pool .table) (rows (pool .table)))
       (λ k e. ap (λ o. first-to-leave after i (answered o)) e ∙ against k e)
-      (λ e. ap (λ o. first-to-leave after i (answered o)) e ∙ leaves-alone after i ∙ sym (ap answered (quarantine-row-alone pool i below e)))
-      ∙ ap (λ n. answered (oldest after n)) (sym (rows-same after (pool .table) (quarantine-row-lengths pool i below .1)))
+      (λ e. ap (λ o. first-to-leave after i (answered o)) e ∙ leaves-alone after i
+      ∙ sym (ap answered (quarantine-row-alone pool i below e)))
+      ∙ ap (λ n. answered (oldest after n))
+      (sym (rows-same after (pool .table) (quarantine-row-lengths pool i below .1)))

@@ -20,7 +20,8 @@ first-to-leave table i Nothing = One i
 first-to-leave table i (One k) =
     elim (ltb (turn table i) (turn table k)) [
       | true ↦ One i
-      | false ↦ elim (ltb (turn table k) (turn table i)) [ true ↦ One k | false ↦ elim (ltb i k) [ true ↦ One i | false ↦ One k ] ]
+      | false ↦ elim (ltb (turn table k)
+          (turn table i)) [ true ↦ One k | false ↦ elim (ltb i k) [ true ↦ One i | false ↦ One k ] ]
     ]
 
 -- both are rows of the table

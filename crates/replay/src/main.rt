@@ -1,15 +1,14 @@
-// Replays a trace: frames on standard input, the report on standard output as it goes, all else on standard error. Its arguments
-// are nine numbers, which `kinkhost` at the top of the repository gives.
-mod explain;
-mod offer;
+// Replays a trace: frames on standard input, the report on standard output as it goes, all else on standard error. Its
+// arguments are nine numbers, which `kinkhost` at the top of the repository gives.
 mod options;
-mod say;
-mod summary;
-mod words;
 
-use offer::Run;
+use offers::offer;
+use offers::offer::Run;
+use offers::summary;
 use options::Options;
 use rules::Opened;
+use speech::say;
+use speech::words;
 
 // One more than the paper allows, so that it is the watcher that refuses what is too long.
 const SHADOW_BYTES: usize = 65_537;
@@ -99,7 +98,8 @@ fn main() {
     let options = options::given();
     if !options.right {
         say::text(
-            b"kinkhost: replay takes nine numbers: granules redzone quarantine rows piece room explain progress verdict\n",
+            b"kinkhost: replay takes nine numbers: granules redzone quarantine rows piece room explain progress \
+            verdict\n",
         );
         options::tell(options, 2);
         return;

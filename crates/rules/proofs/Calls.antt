@@ -1,5 +1,6 @@
--- The laws of the calls: when an opening is refused and what it leaves, what the check behind 24 says, that a session handed back is
--- taken again, that direct calls answer as their frames do, and what a feed leaves of its room. Assumes nothing.
+-- The laws of the calls: when an opening is refused and what it leaves, what the check behind 24 says, that a session
+-- handed back is taken again, that direct calls answer as their frames do, and what a feed leaves of its room. Assumes
+-- nothing.
 use Prim.Native.Nat.{ℕ, _+_, _-_, _*_, _/_, _%_, _≤_, _<_, zero-le}
 use native.Mathlib.Omega.{arith}
 use mathlib.Core.Path.{_≡_, refl, sym, ap, subst, _∙_}
@@ -15,11 +16,13 @@ use Rattle.rules.specs.declared.Answer.the-variants.{Done}
 use Rattle.rules.specs.declared.CallAnswer.the-variants.{Answered, BadSession}
 use Rattle.rules.specs.declared.OpeningAnswer.the-variants.{Open, BadShadowLength, BadRedzone, BadTableLength}
 use Rattle.rules.specs.declared.Frame.the-variants.{Grant, Release, Read}
-use Rattle.rules.specs.Limits.{between, least-granules, most-granules, least-rows, most-rows, row-numbers, least-redzone, most-redzone, frame-digits, too-long, redzone-byte}
+use Rattle.rules.specs.Limits.{between, least-granules, most-granules, least-rows, most-rows, row-numbers}
+use Rattle.rules.specs.Limits.{least-redzone, most-redzone, frame-digits, too-long, redzone-byte}
 use Rattle.rules.specs.Answers.{in-numbers, status, opening-status, call-in-numbers, call-status}
 use Rattle.rules.specs.Lowest.{lowest, found, all-equal, AllEqual}
 use Rattle.rules.specs.Release.{Pool}
-use Rattle.rules.specs.Feed.{Engine, State, Ran, no-bytes, with-line, emptied, lengthened, act-line, finish, hold, step, run, taken}
+use Rattle.rules.specs.Feed.{Engine, State, Ran, no-bytes, with-line, emptied, lengthened, act-line, finish, hold}
+use Rattle.rules.specs.Feed.{step, run, taken}
 use Rattle.rules.specs.Watcher.{act, pool-of, lent-lengths, watcher, state-of}
 use Rattle.rules.specs.Calls.{closed, fresh, table-length, OpenedWith, not-opened, open-with, unused-zero}
 use Rattle.rules.specs.Calls.{within-limits, fits-lent, Within, Lent, LentState, fits-session, KeepsLengths}
@@ -50,12 +53,15 @@ unused-end line n past = ap (λ o. not (found o)) (walk-end (λ k. not (eqb (get
 pub unused-here : (line : List ℕ) (n : ℕ) → n < frame-digits → getD line n 0 ≢ 0 → unused-zero line n ≡ false
 unfolding unused-zero all-equal
 unused-here line n below used =
-    ap (λ o. not (found o)) (walk-found (λ k. not (eqb (getD line k 0) 0)) frame-digits n below (ap not (ne-eqb (getD line n 0) 0 used)))
+    ap (λ o. not (found o)) (walk-found (λ k. not (eqb (getD line k 0) 0)) frame-digits n below
+    (ap not (ne-eqb (getD line n 0) 0 used)))
 
-pub unused-next : (line : List ℕ) (n : ℕ) → n < frame-digits → getD line n 0 ≡ 0 → unused-zero line n ≡ unused-zero line (n + 1)
+pub unused-next : (line : List ℕ) (n : ℕ) → n < frame-digits → getD line n 0 ≡ 0 → unused-zero line n
+    ≡ unused-zero line (n + 1)
 unfolding unused-zero all-equal
 unused-next line n below is-zero =
-    ap (λ o. not (found o)) (walk-on (λ k. not (eqb (getD line k 0) 0)) frame-digits n below (ap not (eq-eqb (getD line n 0) 0 is-zero)))
+    ap (λ o. not (found o)) (walk-on (λ k. not (eqb (getD line k 0) 0)) frame-digits n below
+    (ap not (eq-eqb (getD line n 0) 0 is-zero)))
 
 pub within-true : (session : Session) → within-limits session ≡ true → Within session
 unfolding within-limits
@@ -75,10 +81,12 @@ within-true session e =
 pub within-is : (session : Session) → Within session → within-limits session ≡ true
 unfolding within-limits
 within-is session w =
-    join (join (join (join (w .granules) (w .rows)) (w .redzone)) (le-leb (session .unfinished) too-long (w .unfinished)))
+    join (join (join (join (w .granules) (w .rows)) (w .redzone))
+    (le-leb (session .unfinished) too-long (w .unfinished)))
     (unused-is (session .line) (session .unfinished) (w .unused))
 
-pub lent-true : (session : Session) (shadow table : List ℕ) → fits-lent session shadow table ≡ true → Lent session shadow table
+pub lent-true : (session : Session) (shadow table : List ℕ) → fits-lent session shadow table ≡ true
+    → Lent session shadow table
 unfolding fits-session lent-lengths
 lent-true session shadow table e =
     let a = both e in
@@ -89,7 +97,8 @@ lent-true session shadow table e =
       of-table = eqb-true (length table) (row-numbers * session .rows) (b .1);
     }
 
-pub lent-is : (session : Session) (shadow table : List ℕ) → Lent session shadow table → fits-lent session shadow table ≡ true
+pub lent-is : (session : Session) (shadow table : List ℕ) → Lent session shadow table → fits-lent session shadow table
+    ≡ true
 unfolding fits-session lent-lengths
 lent-is session shadow table l =
     join (within-is session (l .within))
@@ -97,13 +106,18 @@ lent-is session shadow table l =
     (eq-eqb (length table) (row-numbers * session .rows) (l .of-table)))
 
 -- so what is lent is within the paper's limits
-pub lent-granules : {session : Session} {shadow table : List ℕ} → Lent session shadow table → length shadow ≤ most-granules
-lent-granules {session} l = omega (arith, l .of-shadow, between-is least-granules most-granules (session .granules) (l .within .granules) .1)
+pub lent-granules : {session : Session} {shadow table : List ℕ} → Lent session shadow table → length shadow
+    ≤ most-granules
+lent-granules {session} l =
+    omega (arith, l .of-shadow, between-is least-granules most-granules (session .granules) (l .within .granules) .1)
 
-pub lent-numbers : {session : Session} {shadow table : List ℕ} → Lent session shadow table → length table ≤ row-numbers * most-rows
-lent-numbers {session} l = omega (arith, l .of-table, between-is least-rows most-rows (session .rows) (l .within .rows) .1)
+pub lent-numbers : {session : Session} {shadow table : List ℕ} → Lent session shadow table → length table
+    ≤ row-numbers * most-rows
+lent-numbers {session} l =
+    omega (arith, l .of-table, between-is least-rows most-rows (session .rows) (l .within .rows) .1)
 
-pub lent-redzone : {session : Session} {shadow table : List ℕ} → Lent session shadow table → session .redzone ≤ most-redzone
+pub lent-redzone : {session : Session} {shadow table : List ℕ} → Lent session shadow table → session .redzone
+    ≤ most-redzone
 lent-redzone {session} l = between-is least-redzone most-redzone (session .redzone) (l .within .redzone) .1
 
 -- a closed session fits nothing
@@ -117,7 +131,8 @@ no-bytes-zero : AllEqual no-bytes 0 0 frame-digits
 no-bytes-zero k from below = getD-replicate frame-digits k 0 0 below
 
 -- by the numbers that a line keeps
-within-line : (session : Session) (n : ℕ) (line : List ℕ) → Within session → n ≤ too-long → AllEqual line 0 n frame-digits → Within (with-line session n line)
+within-line : (session : Session) (n : ℕ) (line : List ℕ) → Within session → n ≤ too-long
+    → AllEqual line 0 n frame-digits → Within (with-line session n line)
 within-line session n line w most zeros = record {
   granules = w .granules;
   rows = w .rows;
@@ -137,7 +152,8 @@ lengthened-within session b w =
     subst Within (sym (lengthened-short session b short))
     (within-line session (session .unfinished + 1) (set (session .line) (session .unfinished) b) w (omega arith)
     (λ k from below.
-    getD-set-other (session .line) (session .unfinished) k b 0 (λ e. absurd (omega arith)) ∙ w .unused k (omega arith) below)))
+    getD-set-other (session .line) (session .unfinished) k b 0 (λ e. absurd (omega arith))
+    ∙ w .unused k (omega arith) below)))
     (λ long.
     subst Within (sym (lengthened-long session b long))
     (within-line session too-long (session .line) w (omega arith) (λ k from below. absurd (omega arith))))
@@ -151,7 +167,8 @@ module _ {P : Type 0} (engine : Engine P) (keeps : KeepsLengths engine) where
       (λ e. emptied-within (st .session) w)
       (λ e. lengthened-within (st .session) b w)
 
-  step-keeps : (S n : ℕ) (st : State P) (b : ℕ) → engine .lent S n (st .pool) ≡ true → engine .lent S n (step engine st b .state .pool) ≡ true
+  step-keeps : (S n : ℕ) (st : State P) (b : ℕ) → engine .lent S n (st .pool) ≡ true
+      → engine .lent S n (step engine st b .state .pool) ≡ true
   unfolding finish hold act-line
   step-keeps S n st b lent =
       by-byte engine st b (λ r. engine .lent S n (r .state .pool) ≡ true)
@@ -216,14 +233,16 @@ opened-with shadow table R Q = record {
 }
 
 pub open-done : (shadow table : List ℕ) (R Q : ℕ) → between least-granules most-granules (length shadow) ≡ true
-    → between least-redzone most-redzone R ≡ true → table-length (length table) ≡ true → open-with shadow table R Q ≡ opened-with shadow table R Q
+    → between least-redzone most-redzone R ≡ true → table-length (length table) ≡ true → open-with shadow table R Q
+    ≡ opened-with shadow table R Q
 unfolding open-with
 open-done shadow table R Q a b c = if-true _ _ a ∙ if-true _ _ b ∙ if-true _ _ c
 
 -- by what an opening finds, each case with the tests that were passed before it
 pub by-open {ℓ} : (shadow table : List ℕ) (R Q : ℕ) (P : OpenedWith → Type ℓ)
     → (between least-granules most-granules (length shadow) ≡ false → P (not-opened BadShadowLength shadow table))
-    → (between least-granules most-granules (length shadow) ≡ true → between least-redzone most-redzone R ≡ false → P (not-opened BadRedzone shadow table))
+    → (between least-granules most-granules (length shadow) ≡ true → between least-redzone most-redzone R ≡ false
+    → P (not-opened BadRedzone shadow table))
     → (between least-granules most-granules (length shadow) ≡ true → between least-redzone most-redzone R ≡ true
     → table-length (length table) ≡ false → P (not-opened BadTableLength shadow table))
     → P (opened-with shadow table R Q) → P (open-with shadow table R Q)
@@ -240,28 +259,33 @@ by-open shadow table R Q P bad-shadow bad-redzone bad-table done =
 
 -- a refused opening gives the closed session and writes nothing
 abbrev pub NotOpened : List ℕ → List ℕ → OpenedWith → Type 0
-NotOpened shadow table o = o .given .status ≢ 0 → (o .given .session ≡ closed) × (o .shadow ≡ shadow) × (o .table ≡ table)
+NotOpened shadow table o =
+    o .given .status ≢ 0 → (o .given .session ≡ closed) × (o .shadow ≡ shadow) × (o .table ≡ table)
 
 pub open-refused : (shadow table : List ℕ) (R Q : ℕ) → NotOpened shadow table (open-with shadow table R Q)
 unfolding opening-status
 open-refused shadow table R Q =
     by-open shadow table R Q (NotOpened shadow table)
-    (λ a refused. (refl, refl, refl)) (λ a b refused. (refl, refl, refl)) (λ a b c refused. (refl, refl, refl)) (λ refused. absurd (refused refl))
+    (λ a refused. (refl, refl, refl)) (λ a b refused. (refl, refl, refl)) (λ a b c refused. (refl, refl, refl))
+    (λ refused. absurd (refused refl))
 
 -- an opened session fits the buffers that it was opened with
 pub open-lent : (shadow table : List ℕ) (R Q : ℕ) → between least-granules most-granules (length shadow) ≡ true
     → between least-redzone most-redzone R ≡ true → table-length (length table) ≡ true
-    → Lent (opened-with shadow table R Q .given .session) (opened-with shadow table R Q .shadow) (opened-with shadow table R Q .table)
+    → Lent (opened-with shadow table R Q .given .session) (opened-with shadow table R Q .shadow)
+    (opened-with shadow table R Q .table)
 unfolding table-length
 open-lent shadow table R Q a b c =
-    let t : (between (row-numbers * least-rows) (row-numbers * most-rows) (length table) ≡ true) × (eqb (length table % row-numbers) 0 ≡ true) = both c in
+    let t : (between (row-numbers * least-rows) (row-numbers * most-rows) (length table) ≡ true)
+    × (eqb (length table % row-numbers) 0 ≡ true) = both c in
     let bounds : (row-numbers * least-rows ≤ length table) × (length table ≤ row-numbers * most-rows) =
     between-is (row-numbers * least-rows) (row-numbers * most-rows) (length table) (t .0) in
     let multiple : length table % row-numbers ≡ 0 = eqb-true (length table % row-numbers) 0 (t .1) in
     record {
       within = record {
         granules = a;
-        rows = between-true least-rows most-rows (length table / row-numbers) (omega (arith, bounds .0)) (omega (arith, bounds .1));
+        rows = between-true least-rows most-rows (length table / row-numbers) (omega (arith, bounds .0))
+            (omega (arith, bounds .1));
         redzone = b;
         unfinished = zero-le;
         unused = no-bytes-zero;
@@ -352,12 +376,14 @@ module _ {P : Type 0} (engine : Engine P) (session : Session) (pool : P) (piece 
   ran-of = run engine (record { session = session; pool = pool }) (take (taken piece (length room)) piece)
 
   -- `run` over the bytes taken
-  pub feed-done : fits-session engine session pool ≡ true → feed-by engine session pool piece room ≡ fed-with ran-of (taken piece (length room)) room
+  pub feed-done : fits-session engine session pool ≡ true → feed-by engine session pool piece room
+      ≡ fed-with ran-of (taken piece (length room)) room
   unfolding feed-by
   feed-done e = if-true _ _ e
 
   -- 24 gives the session back, takes no byte and writes none
-  pub feed-24 : fits-session engine session pool ≡ false → feed-by engine session pool piece room ≡ not-fed session pool room
+  pub feed-24 : fits-session engine session pool ≡ false → feed-by engine session pool piece room
+      ≡ not-fed session pool room
   unfolding feed-by call-status call-in-numbers
   feed-24 e = if-false _ _ e
 
@@ -389,19 +415,22 @@ module _ {P : Type 0} (engine : Engine P) (session : Session) (pool : P) (piece 
 
   -- the session that a feed hands back fits what it was lent, after it
   pub feed-lent : KeepsLengths engine → fits-session engine session pool ≡ true
-      → fits-session engine (feed-by engine session pool piece room .given .session) (feed-by engine session pool piece room .pool) ≡ true
+      → fits-session engine (feed-by engine session pool piece room .given .session)
+      (feed-by engine session pool piece room .pool) ≡ true
   feed-lent keeps e =
       subst (λ f. fits-session engine (f .given .session) (f .pool) ≡ true) (sym (feed-done e))
       (run-fits engine keeps (record { session = session; pool = pool }) (take (taken piece (length room)) piece) e)
 
 -- an empty piece takes 0
-pub feed-empty : {P : Type 0} (engine : Engine P) (session : Session) (pool : P) (room : List ℕ) → fits-session engine session pool ≡ true
+pub feed-empty : {P : Type 0} (engine : Engine P) (session : Session) (pool : P) (room : List ℕ)
+    → fits-session engine session pool ≡ true
     → feed-by engine session pool [] room
     ≡ record { given = record { session = session; status = 0; taken = 0; wrote = 0 }; pool = pool; room = room }
 unfolding taken run call-status call-in-numbers in-numbers
 feed-empty engine session pool room e =
     feed-done engine session pool [] room e
-    ∙ ap (λ r. record { given = record { session = session; status = 0; taken = 0; wrote = 0 }; pool = pool; room = r }) (put-nothing room 0)
+    ∙ ap (λ r. record { given = record { session = session; status = 0; taken = 0; wrote = 0 }; pool = pool; room = r })
+    (put-nothing room 0)
 
 -- ---- both sides of every limit, computed
 

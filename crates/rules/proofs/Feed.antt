@@ -1,5 +1,5 @@
--- The laws of a text, whatever engine acts on its lines: an unfinished line is never acted on, `run` over an appended text, 13 bytes for each
--- line feed, and how far a piece is taken. Assumes nothing.
+-- The laws of a text, whatever engine acts on its lines: an unfinished line is never acted on, `run` over an appended
+-- text, 13 bytes for each line feed, and how far a piece is taken. Assumes nothing.
 use Prim.Native.Nat.{ℕ, zero, suc, _+_, _-_, _*_, _≤_, _<_, zero-le}
 use native.Mathlib.Decide.{ℕ-discrete}
 use native.Mathlib.Omega.{arith}
@@ -12,7 +12,9 @@ use lib.Dec.{eqb}
 use borrow.Author.Tests.{ne-eqb, lt-ltb, le-ltb}
 use Rattle.rules.specs.declared.Session.{Session}
 use Rattle.rules.specs.Limits.{frame-digits, too-long, line-feed, answer-bytes}
-use Rattle.rules.specs.Feed.{Engine, with-line, emptied, lengthened, State, Ran, act-line, finish, hold, step, after, run, run-nil, run-cons, taken, taken-nil, taken-byte, taken-answered, taken-stops}
+use Rattle.rules.specs.Feed.{Engine, with-line, emptied, lengthened, State, Ran, act-line, finish, hold, step}
+use Rattle.rules.specs.Feed.{after, run, run-nil, run-cons, taken, taken-nil, taken-byte, taken-answered}
+use Rattle.rules.specs.Feed.{taken-stops}
 use Rattle.rules.proofs.Tests.{by-order, if-false, if-true}
 use Rattle.rules.proofs.Frames.{length-answer}
 
@@ -67,7 +69,8 @@ module _ {P : Type 0} (engine : Engine P) where
   step-byte st b other = if-false _ _ (ne-eqb b line-feed other)
 
   -- by what a byte is
-  pub by-byte {ℓ} : (st : State P) (b : ℕ) (Q : Ran P → Type ℓ) → (b ≡ line-feed → Q (finish engine st)) → (b ≢ line-feed → Q (hold st b))
+  pub by-byte {ℓ} : (st : State P) (b : ℕ) (Q : Ran P → Type ℓ) → (b ≡ line-feed → Q (finish engine st))
+      → (b ≢ line-feed → Q (hold st b))
       → Q (step engine st b)
   by-byte st b Q feed other =
       elim (ℕ-discrete b line-feed) [
@@ -185,10 +188,12 @@ run-report {P} engine st (b ∷ text) =
           ap (λ c. length (step engine st c .report)) e
           ∙ ap (λ r. length (r .report)) (step-line-feed engine st)
           ∙ finish-report engine st in
-          let count : line-feeds (b ∷ text) ≡ suc (line-feeds text) = ap (λ c. line-feeds (c ∷ text)) e ∙ line-feeds-feed text in
+          let count : line-feeds (b ∷ text) ≡ suc (line-feeds text) =
+          ap (λ c. line-feeds (c ∷ text)) e ∙ line-feeds-feed text in
           omega arith)
       | no e ↦
-          (let here : length (first .report) ≡ 0 = ap (λ r. length (r .report)) (step-byte engine st b e ∙ hold-keeps st b) in
+          (let here : length (first .report)
+          ≡ 0 = ap (λ r. length (r .report)) (step-byte engine st b e ∙ hold-keeps st b) in
           let count : line-feeds (b ∷ text) ≡ line-feeds text = line-feeds-byte b text e in
           omega arith)
     ]
@@ -222,7 +227,12 @@ taken-fits [] room = subst (λ n. answer-bytes * line-feeds (take n []) ≤ room
 taken-fits (b ∷ piece) room =
     by-taken b piece room (λ c n. answer-bytes * line-feeds (take n (c ∷ piece)) ≤ room)
     (λ full. zero-le)
-    (λ left. omega (arith, taken-fits piece (room - answer-bytes), line-feeds-feed (take (taken piece (room - answer-bytes)) piece)))
+    (λ left. omega (
+      arith,
+      taken-fits piece (room - answer-bytes),
+      line-feeds-feed
+          (take (taken piece (room - answer-bytes)) piece),
+    ))
     (λ other. omega (arith, taken-fits piece room, line-feeds-byte b (take (taken piece room) piece) other))
 
 -- what is not taken begins with a line feed, for whose answer fewer than 13 bytes are left
@@ -237,8 +247,13 @@ taken-less (b ∷ piece) room =
     by-taken b piece room (λ c n. n < suc (length piece) → Stopped (c ∷ piece) room n)
     (λ full less. record { next = refl; left = full })
     (λ left less.
-    let s : Stopped piece (room - answer-bytes) (taken piece (room - answer-bytes)) = taken-less piece (room - answer-bytes) (omega arith) in
-    record { next = s .next; left = omega (arith, s .left, line-feeds-feed (take (taken piece (room - answer-bytes)) piece)) })
+    let s : Stopped piece (room - answer-bytes) (taken piece (room - answer-bytes)) =
+    taken-less piece (room - answer-bytes) (omega arith) in
+    record {
+      next = s .next;
+      left = omega
+          (arith, s .left, line-feeds-feed (take (taken piece (room - answer-bytes)) piece));
+    })
     (λ other less.
     let s : Stopped piece room (taken piece room) = taken-less piece room (omega arith) in
     record { next = s .next; left = omega (arith, s .left, line-feeds-byte b (take (taken piece room) piece) other) })

@@ -17,10 +17,12 @@ use Rattle.rules.specs.declared.Line.the-variants.{Of, NotDigits}
 use Rattle.rules.specs.declared.Frame.{Frame}
 use Rattle.rules.specs.declared.Frame.the-variants.{Grant, Release, Read, Write, Refused}
 use Rattle.rules.specs.Field.{start-of}
-use Rattle.rules.specs.Limits.{frame-fields, frame-kind, frame-A, frame-B, frame-digits, line-feed, answer-fields, answer-bytes, kind-grant, kind-release, kind-read, kind-write}
+use Rattle.rules.specs.Limits.{frame-fields, frame-kind, frame-A, frame-B, frame-digits, line-feed, answer-fields}
+use Rattle.rules.specs.Limits.{answer-bytes, kind-grant, kind-release, kind-read, kind-write}
 use Rattle.rules.specs.Hex.{hex-digit, written, read-field}
 use Rattle.rules.specs.Answers.{in-numbers}
-use Rattle.rules.specs.Frames.{fields, fields-of-digits, fields-of-line, with-zero, frame, asked, frame-of-line, answer-line}
+use Rattle.rules.specs.Frames.{fields, fields-of-digits, fields-of-line, with-zero, frame, asked, frame-of-line}
+use Rattle.rules.specs.Frames.{answer-line}
 use Rattle.rules.proofs.Tests.{by-found, by-order, if-false}
 use Rattle.rules.proofs.Hex.{length-written, read-back, read-fits, field-none, field-some}
 
@@ -103,7 +105,8 @@ by-kind kind A B P grants releases reads writes other =
 -- ---- a line
 
 -- a line of fields asks what they ask, and any other is refused 01
-pub line-asks : (n : ℕ) (line : List ℕ) (fields : Fields) → fields-of-line n line ≡ Of fields → frame-of-line n line ≡ frame fields
+pub line-asks : (n : ℕ) (line : List ℕ) (fields : Fields) → fields-of-line n line ≡ Of fields → frame-of-line n line
+    ≡ frame fields
 unfolding frame-of-line asked
 line-asks n line fields e = ap asked e
 
@@ -180,7 +183,8 @@ by-fields P not-digits said n line =
         (λ k. subst P (sym (bad-kind line k)) not-digits)
 
 -- no fields, so 01, where a byte of the 18 is no hex digit
-pub line-bad : (line : List ℕ) (k : ℕ) → length line ≡ frame-digits → k < frame-digits → hex-digit (getD line k 0) ≡ none
+pub line-bad : (line : List ℕ) (k : ℕ) → length line ≡ frame-digits → k < frame-digits → hex-digit (getD line k 0)
+    ≡ none
     → fields-of-digits line ≡ NotDigits
 line-bad line k whole below e =
     by-order k (start-of frame-fields frame-A)

@@ -1,5 +1,5 @@
--- The laws of a grant: its place is the lowest that keeps the redzone on both sides, 05 and 06 have exact conditions, lengths stay,
--- and no row but an empty one is touched. Assumes nothing.
+-- The laws of a grant: its place is the lowest that keeps the redzone on both sides, 05 and 06 have exact conditions,
+-- lengths stay, and no row but an empty one is touched. Assumes nothing.
 use Prim.Native.Nat.{ℕ, zero, suc, _+_, _-_, _*_, _/_, _%_, _^_, _≤_, _<_, zero-le}
 use native.Mathlib.Omega.{arith}
 use mathlib.Core.Path.{_≡_, refl, sym, ap, subst, _∙_}
@@ -7,7 +7,8 @@ use mathlib.Core.Logic.{_≢_}
 use mathlib.Core.Bool.{true, true≢false}
 use mathlib.Core.Option.{none, some}
 use mathlib.Core.List.{List, _++_}
-use lib.ListN.{length, getD, replicate, set, length-append, length-replicate, length-set, getD-replicate, List·getD-append}
+use lib.ListN.{length, getD, replicate, set, length-append, length-replicate, length-set, getD-replicate}
+use lib.ListN.{List·getD-append}
 use lib.Seq.{getD-append-add, getD-set-same, getD-set-other, ext-getD}
 use borrow.Author.Tests.{eqb-true, eq-eqb}
 use Rattle.rules.specs.declared.Answer.the-variants.{NoRow, NoPlace}
@@ -53,12 +54,14 @@ granules-above s above = omega arith
 fits-window : (R u p : ℕ) → R ≤ p → p - R + (R + u + R) ≡ p + u + R
 fits-window R u p low = omega arith
 
-pub fits-true : (shadow : List ℕ) (R u p : ℕ) → R ≤ p → p + u + R ≤ length shadow → fits shadow R u p ≡ true → Fits shadow R u p
+pub fits-true : (shadow : List ℕ) (R u p : ℕ) → R ≤ p → p + u + R ≤ length shadow → fits shadow R u p ≡ true
+    → Fits shadow R u p
 unfolding fits
 fits-true shadow R u p low high e = record {
   low = low;
   high = high;
-  free = subst (λ w. AllFree shadow (p - R) w) (fits-window R u p low) (all-equal-true shadow redzone-byte (p - R) (R + u + R) e);
+  free = subst (λ w. AllFree shadow (p - R) w) (fits-window R u p low)
+      (all-equal-true shadow redzone-byte (p - R) (R + u + R) e);
 }
 
 pub fits-is : (shadow : List ℕ) (R u p : ℕ) → Fits shadow R u p → fits shadow R u p ≡ true
@@ -82,7 +85,8 @@ unfolding place
 place-none shadow R u e p f =
     true≢false
     (sym (fits-is shadow R u p f)
-    ∙ lowest-none (fits shadow R u) (length shadow + 1 - (R + u + R)) R e p (f .low) (let high : p + u + R ≤ length shadow = f .high in omega arith))
+    ∙ lowest-none (fits shadow R u) (length shadow + 1 - (R + u + R)) R e p (f .low)
+    (let high : p + u + R ≤ length shadow = f .high in omega arith))
 
 pub place-is : (shadow : List ℕ) (R u p : ℕ) → Place shadow R u p → place shadow R u ≡ some p
 place-is shadow R u p l =
@@ -99,7 +103,8 @@ place-no shadow R u nowhere =
     by-found (place shadow R u) (λ q e. absurd (nowhere q (place-some shadow R u q e .fits))) (λ e. e)
 
 -- the address of a place has 32 bits
-pub place-fits : (shadow : List ℕ) (R u p : ℕ) → place shadow R u ≡ some p → length shadow ≤ most-granules → granule * p < 2 ^ 32
+pub place-fits : (shadow : List ℕ) (R u p : ℕ) → place shadow R u ≡ some p → length shadow ≤ most-granules → granule * p
+    < 2 ^ 32
 place-fits shadow R u p e most = omega (arith, place-some shadow R u p e .fits .high)
 
 -- ---- what is painted
@@ -117,7 +122,8 @@ pub length-granted : (s : ℕ) → length (granted s) ≡ granules s
 unfolding granted granules
 length-granted s =
     length-append (replicate (s / granule) 0) (last-granule (s % granule))
-    ∙ (let rest : length (last-granule (s % granule)) ≡ (s % granule + 7) / granule = length-last (s % granule) (omega arith) in
+    ∙ (let rest : length (last-granule (s % granule))
+    ≡ (s % granule + 7) / granule = length-last (s % granule) (omega arith) in
     omega (arith, length-zeros (s / granule)))
 
 -- whole granules are 00
@@ -153,7 +159,8 @@ granted-even s even =
 pub granted-rest : (s : ℕ) → s % granule ≢ 0 → set (replicate (granules s) 0) (s / granule) (s % granule) ≡ granted s
 granted-rest s rest =
     let zeros : List ℕ = replicate (granules s) 0 in
-    let same : length (set zeros (s / granule) (s % granule)) ≡ granules s = length-set zeros (s / granule) (s % granule) ∙ length-zeros (granules s) in
+    let same : length (set zeros (s / granule) (s % granule)) ≡ granules s =
+    length-set zeros (s / granule) (s % granule) ∙ length-zeros (granules s) in
     ext-getD 0 (set zeros (s / granule) (s % granule)) (granted s) (same ∙ sym (length-granted s))
     (λ k below.
     let in-block : k < granules s = omega arith in
@@ -178,7 +185,8 @@ empty-row-some table i e = lowest-some (is-empty table) (rows table) 0 i e
 pub empty-row-none : (table : List ℕ) → empty-row table ≡ none → (i : ℕ) → i < rows table → state table i ≢ empty
 unfolding empty-row
 empty-row-none table e i below is-zero =
-    true≢false (sym (eq-eqb (state table i) empty is-zero) ∙ lowest-none (is-empty table) (rows table) 0 e i zero-le (omega arith))
+    true≢false (sym (eq-eqb (state table i) empty is-zero)
+    ∙ lowest-none (is-empty table) (rows table) 0 e i zero-le (omega arith))
 
 -- ---- a grant
 
@@ -187,12 +195,14 @@ pub grant-no-row : (R : ℕ) (shadow table : List ℕ) (s : ℕ) → empty-row t
 unfolding grant
 grant-no-row R shadow table s e = rw (e, grant)
 
-pub grant-no-place : (R : ℕ) (shadow table : List ℕ) (s i : ℕ) → empty-row table ≡ some i → place shadow R (granules (counted s)) ≡ none
+pub grant-no-place : (R : ℕ) (shadow table : List ℕ) (s i : ℕ) → empty-row table ≡ some i
+    → place shadow R (granules (counted s)) ≡ none
     → grant R shadow table s ≡ unchanged NoPlace shadow table
 unfolding grant
 grant-no-place R shadow table s i row e = rw (row, grant) (rw (e))
 
-pub grant-done : (R : ℕ) (shadow table : List ℕ) (s i p : ℕ) → empty-row table ≡ some i → place shadow R (granules (counted s)) ≡ some p
+pub grant-done : (R : ℕ) (shadow table : List ℕ) (s i p : ℕ) → empty-row table ≡ some i
+    → place shadow R (granules (counted s)) ≡ some p
     → grant R shadow table s ≡ grant-at shadow table (counted s) i p
 unfolding grant
 grant-done R shadow table s i p row e = rw (row, grant) (rw (e))
@@ -202,7 +212,8 @@ pub by-grant {ℓ} : (R : ℕ) (shadow table : List ℕ) (s : ℕ) (P : Acted �
     → (empty-row table ≡ none → P (unchanged NoRow shadow table))
     → ((i : ℕ) → empty-row table ≡ some i → place shadow R (granules (counted s)) ≡ none
     → P (unchanged NoPlace shadow table))
-    → ((i p : ℕ) → empty-row table ≡ some i → place shadow R (granules (counted s)) ≡ some p → P (grant-at shadow table (counted s) i p))
+    → ((i p : ℕ) → empty-row table ≡ some i → place shadow R (granules (counted s)) ≡ some p
+    → P (grant-at shadow table (counted s) i p))
     → P (grant R shadow table s)
 by-grant R shadow table s P no-row no-place done =
     by-found (empty-row table)
@@ -213,7 +224,8 @@ by-grant R shadow table s P no-row no-place done =
     (λ full. subst P (sym (grant-no-row R shadow table s full)) (no-row full))
 
 -- a place for a block leaves its granules inside the shadow
-pub place-inside : (R : ℕ) (shadow : List ℕ) (s p : ℕ) → place shadow R (granules s) ≡ some p → p + length (granted s) ≤ length shadow
+pub place-inside : (R : ℕ) (shadow : List ℕ) (s p : ℕ) → place shadow R (granules s) ≡ some p → p + length (granted s)
+    ≤ length shadow
 place-inside R shadow s p e = omega (arith, place-some shadow R (granules s) p e .fits .high, length-granted s)
 
 -- lengths are kept

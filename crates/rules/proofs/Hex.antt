@@ -1,7 +1,8 @@
 -- The laws of text: a hex digit's value, that what is written in digits reads back, and that each field of a line does.
 -- Assumes nothing.
 use Prim.Native.Nat.{ℕ, zero, suc, _+_, _-_, _*_, _/_, _%_, _^_, _≤_, _<_}
-use native.Mathlib.Nat.{add-assoc, add-mul, mul-comm, mul-assoc, pow-succ', one-le-pow, mod-one, mod-lt, mod-eq-of-lt, lt-of-lt-of-le, mul-le-mul-right, min-le-left, pow-le-pow-right}
+use native.Mathlib.Nat.{add-assoc, add-mul, mul-comm, mul-assoc, pow-succ', one-le-pow, mod-one, mod-lt, mod-eq-of-lt}
+use native.Mathlib.Nat.{lt-of-lt-of-le, mul-le-mul-right, min-le-left, pow-le-pow-right}
 use native.Mathlib.Omega.{arith}
 use mathlib.Core.Path.{_≡_, refl, sym, ap, ap₂, subst, _∙_}
 use mathlib.Core.Logic.{_≢_}
@@ -13,8 +14,11 @@ use lib.Arith.{mod-mul}
 use borrow.Author.Tests.{lt-ltb, le-ltb}
 use Rattle.rules.specs.Field.{Field, width-of, start-of, number-of, digits-of}
 use Rattle.rules.specs.Limits.{between, line-feed, no-digit}
-use Rattle.rules.specs.Hex.{hex-digit, digit-value, number-on, number-nil, number-cons, number-stop, number, digit, digits, digits-zero, digits-suc, written, written-nil, written-cons, read-field}
-use Rattle.rules.proofs.Tests.{between-high, between-is, between-low, between-true, by-found, by-order, by-test, if-false, if-true}
+use Rattle.rules.specs.Hex.{hex-digit, digit-value, number-on, number-nil, number-cons, number-stop, number}
+use Rattle.rules.specs.Hex.{digit, digits, digits-zero, digits-suc, written, written-nil, written-cons}
+use Rattle.rules.specs.Hex.{read-field}
+use Rattle.rules.proofs.Tests.{between-high, between-is, between-low, between-true, by-found, by-order, by-test}
+use Rattle.rules.proofs.Tests.{if-false, if-true}
 
 -- ---- a hex digit
 
@@ -269,7 +273,8 @@ module _ {A : Type 0} where
       → start-of fields k + width-of fields k ≤ length line → start-of fields k ≤ i
       → i < start-of fields k + width-of fields k → hex-digit (getD line i 0) ≡ none → read-field fields k line ≡ none
   unfolding read-field
-  field-none fields k line i room from below e = part-none line (start-of fields k) (width-of fields k) i room from below e
+  field-none fields k line i room from below e =
+      part-none line (start-of fields k) (width-of fields k) i room from below e
 
   pub field-some : (fields : List (Field A)) (k : ℕ) (line : List ℕ)
       → start-of fields k + width-of fields k ≤ length line

@@ -1,4 +1,5 @@
--- The laws of the definitions, a file for each file of `specs/`, the tests that they share, and two that go across them.
+-- The laws of the definitions, a file for each file of `specs/`, the tests that they share, and two that go across
+-- them.
 pub mod Tests
 pub mod Lowest
 pub mod Put

@@ -1,5 +1,5 @@
--- The laws of `lowest` and `total`: what is found is the lowest that passes, none is found exactly where none passes, and a sum
--- changes by what one of its numbers changes by. Assumes nothing.
+-- The laws of `lowest` and `total`: what is found is the lowest that passes, none is found exactly where none passes,
+-- and a sum changes by what one of its numbers changes by. Assumes nothing.
 use Prim.Native.Nat.{ℕ, zero, suc, _+_, _-_, _*_, _≤_, _<_, zero-le}
 use native.Mathlib.Nat.{eq-or-lt-of-le, not-suc-le-zero, suc-mul}
 use native.Mathlib.Numerals.{add-one}
@@ -13,7 +13,8 @@ use lib.ListN.{length, getD}
 use lib.Dec.{eqb}
 use borrow.Author.Tests.{eqb-true, eq-eqb, not-false}
 use Rattle.rules.specs.declared.Found.the-variants.{One, Nothing}
-use Rattle.rules.specs.Lowest.{lowest, found, answered, all-equal, every-entry, total, lowest-zero, lowest-here, lowest-later, total-zero, total-suc, AllEqual}
+use Rattle.rules.specs.Lowest.{lowest, found, answered, all-equal, every-entry, total, lowest-zero, lowest-here}
+use Rattle.rules.specs.Lowest.{lowest-later, total-zero, total-suc, AllEqual}
 use Rattle.rules.proofs.Tests.{by-found, by-order, by-test}
 
 -- ---- lowest
@@ -34,7 +35,8 @@ abbrev pub NonePasses : (ℕ → Bool) → ℕ → ℕ → Type 0
 NonePasses test n i = (j : ℕ) → i ≤ j → j < i + n → test j ≡ false
 
 -- what holds of i and of every number after it holds from i on
-from-here : (P : ℕ → Type 0) (i : ℕ) → P i → (k : ℕ) → ((j : ℕ) → suc i ≤ j → j < k → P j) → (j : ℕ) → i ≤ j → j < k → P j
+from-here : (P : ℕ → Type 0) (i : ℕ) → P i → (k : ℕ) → ((j : ℕ) → suc i ≤ j → j < k → P j) → (j : ℕ) → i ≤ j → j < k
+    → P j
 from-here P i here k above j from below =
     ⊎-elim (λ same. subst P same here) (λ less. above j less below) (eq-or-lt-of-le from)
 
@@ -52,7 +54,13 @@ lowest-some test (suc n) i k e =
     (record { from = omega arith; below = omega arith; passes = passes; first = λ j a b. absurd (omega arith) }))
     (λ fails.
     let above : Lowest test n (suc i) k = lowest-some test n (suc i) k (sym (lowest-later test n i fails) ∙ e) in
-    record { from = omega arith; below = omega arith; passes = above .passes; first = from-here (λ m. test m ≡ false) i fails k (above .first) })
+    record {
+      from = omega arith;
+      below = omega arith;
+      passes = above .passes;
+      first = from-here
+          (λ m. test m ≡ false) i fails k (above .first);
+    })
 
 pub lowest-none : (test : ℕ → Bool) (n i : ℕ) → lowest test n i ≡ none → NonePasses test n i
 lowest-none test zero i e j from below = absurd (omega arith)
@@ -128,10 +136,12 @@ walk-found test e i below passes =
     let left : e - i ≡ suc (e - suc i) = omega arith in
     ap (λ n. lowest test n i) left ∙ lowest-here test (e - suc i) i passes
 
-pub walk-on : (test : ℕ → Bool) (e i : ℕ) → i < e → test i ≡ false → lowest test (e - i) i ≡ lowest test (e - (i + 1)) (i + 1)
+pub walk-on : (test : ℕ → Bool) (e i : ℕ) → i < e → test i ≡ false → lowest test (e - i) i
+    ≡ lowest test (e - (i + 1)) (i + 1)
 walk-on test e i below fails =
     let left : e - i ≡ suc (e - (i + 1)) = omega arith in
-    ap (λ n. lowest test n i) left ∙ lowest-later test (e - (i + 1)) i fails ∙ ap (lowest test (e - (i + 1))) (sym (add-one i))
+    ap (λ n. lowest test n i) left ∙ lowest-later test (e - (i + 1)) i fails
+    ∙ ap (lowest test (e - (i + 1))) (sym (add-one i))
 
 pub walk-end : (test : ℕ → Bool) (e i : ℕ) → e ≤ i → lowest test (e - i) i ≡ none
 walk-end test e i end =
@@ -142,12 +152,24 @@ walk-end test e i end =
 pub one-more-found : (test : ℕ → Bool) (n k : ℕ) → lowest test n 0 ≡ some k → lowest test (suc n) 0 ≡ some k
 one-more-found test n k e =
     let l : Lowest test n 0 k = lowest-some test n 0 k e in
-    lowest-is test (suc n) 0 k (record { from = l .from; below = omega (arith, below-all l); passes = l .passes; first = l .first })
+    lowest-is test (suc n) 0 k (record {
+      from = l .from;
+      below = omega (arith, below-all l);
+      passes = l .passes;
+      first =
+          l .first;
+    })
 
 pub one-more-here : (test : ℕ → Bool) (n : ℕ) → lowest test n 0 ≡ none → test n ≡ true → lowest test (suc n) 0 ≡ some n
 one-more-here test n e passes =
     lowest-is test (suc n) 0 n
-    (record { from = zero-le; below = omega arith; passes = passes; first = λ j from below. lowest-none test n 0 e j from (omega arith) })
+    (record {
+      from = zero-le;
+      below = omega arith;
+      passes = passes;
+      first =
+          λ j from below. lowest-none test n 0 e j from (omega arith);
+    })
 
 pub one-more-none : (test : ℕ → Bool) (n : ℕ) → lowest test n 0 ≡ none → test n ≡ false → lowest test (suc n) 0 ≡ none
 one-more-none test n e fails =
@@ -181,18 +203,21 @@ pub all-equal-is : (list : List ℕ) (v i n : ℕ) → AllEqual list v i (i + n)
 unfolding all-equal
 all-equal-is list v i n same =
     ap (λ o. not (found o))
-    (lowest-no (λ j. not (eqb (getD list j 0) v)) n i (λ k from below. ap not (eq-eqb (getD list k 0) v (same k from below))))
+    (lowest-no (λ j. not (eqb (getD list j 0) v)) n i
+    (λ k from below. ap not (eq-eqb (getD list k 0) v (same k from below))))
 
 -- ---- a table
 
 -- the test over all entries, carried to each lookup
-pub at-entry : (table : List ℕ) (rule : ℕ → ℕ) → every-entry table rule ≡ true → (k : ℕ) → k < length table → getD table k 0 ≡ rule k
+pub at-entry : (table : List ℕ) (rule : ℕ → ℕ) → every-entry table rule ≡ true → (k : ℕ) → k < length table
+    → getD table k 0 ≡ rule k
 at-entry table rule e k below =
     by-found (lowest (λ j. not (eqb (getD table j 0) (rule j))) (length table) 0)
     (λ b f. absurd (true≢false (sym e ∙ ap (λ o. not (found o)) f)))
     (λ f.
     eqb-true (getD table k 0) (rule k)
-    (not-false (eqb (getD table k 0) (rule k)) (lowest-none (λ j. not (eqb (getD table j 0) (rule j))) (length table) 0 f k zero-le (omega arith))))
+    (not-false (eqb (getD table k 0) (rule k))
+    (lowest-none (λ j. not (eqb (getD table j 0) (rule j))) (length table) 0 f k zero-le (omega arith))))
 
 -- ---- total
 
@@ -238,7 +263,8 @@ total-above f (suc n) l =
     by-order 0 (f n)
     (λ here. (n, omega arith, here))
     (λ none-here.
-    let before : (k : ℕ) × (k < n) × (0 < f k) = total-above f n (let e : total f (suc n) ≡ total f n + f n = total-suc f n in omega arith) in
+    let before : (k : ℕ) × (k < n) × (0 < f k) =
+    total-above f n (let e : total f (suc n) ≡ total f n + f n = total-suc f n in omega arith) in
     (before .0, (let b : before .0 < n = before .1 in omega arith), before .2))
 
 -- n numbers of at most m sum to at most n x m

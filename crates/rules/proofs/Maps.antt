@@ -1,5 +1,5 @@
--- The laws of the two published address maps: each row of the printed tables, low memory into low shadow, high memory into high
--- shadow, any shadow address into the gap, and one shadow byte exactly for one granule. Assumes nothing.
+-- The laws of the two published address maps: each row of the printed tables, low memory into low shadow, high memory
+-- into high shadow, any shadow address into the gap, and one shadow byte exactly for one granule. Assumes nothing.
 use Prim.Native.Nat.{ℕ, _+_, _/_, _≤_, _<_}
 use native.Mathlib.Omega.{arith}
 use mathlib.Core.Path.{_≡_, refl, ap, _∙_}
@@ -27,7 +27,8 @@ module _ (map : Map) (p : Published map) where
 
   pub in-low-shadow : (a : ℕ) → map .«low_mem» < a → a ≤ map .«low_shadow» → region map a ≡ LowShadow
   unfolding region
-  in-low-shadow a first last = if-false _ _ (lt-leb a (map .«low_mem») first) ∙ if-true _ _ (le-leb a (map .«low_shadow») last)
+  in-low-shadow a first last =
+      if-false _ _ (lt-leb a (map .«low_mem») first) ∙ if-true _ _ (le-leb a (map .«low_shadow») last)
 
   pub in-gap : (a : ℕ) → map .«low_shadow» < a → a ≤ map .«shadow_gap» → region map a ≡ ShadowGap
   unfolding region
@@ -68,18 +69,22 @@ module _ (map : Map) (p : Published map) where
   low-into-low a last =
       in-low-shadow (a / granule + map .offset) (omega (arith, p .low-shadow-first)) (omega (arith, p .low-shadow-last))
 
-  pub high-into-high : (a : ℕ) → map .«high_shadow» < a → a ≤ map .«high_mem» → region map (shadow-address map a) ≡ HighShadow
+  pub high-into-high : (a : ℕ) → map .«high_shadow» < a → a ≤ map .«high_mem» → region map (shadow-address map a)
+      ≡ HighShadow
   unfolding shadow-address
   high-into-high a first last =
-      in-high-shadow (a / granule + map .offset) (omega (arith, p .high-shadow-first)) (omega (arith, p .high-shadow-last))
+      in-high-shadow (a / granule + map .offset) (omega (arith, p .high-shadow-first))
+      (omega (arith, p .high-shadow-last))
 
   -- and any shadow address into the gap
-  pub low-shadow-into-gap : (a : ℕ) → map .«low_mem» < a → a ≤ map .«low_shadow» → region map (shadow-address map a) ≡ ShadowGap
+  pub low-shadow-into-gap : (a : ℕ) → map .«low_mem» < a → a ≤ map .«low_shadow» → region map (shadow-address map a)
+      ≡ ShadowGap
   unfolding shadow-address
   low-shadow-into-gap a first last =
       in-gap (a / granule + map .offset) (omega (arith, p .gap-first)) (omega (arith, p .gap-last, p .gap, p .shadow))
 
-  pub high-shadow-into-gap : (a : ℕ) → map .«shadow_gap» < a → a ≤ map .«high_shadow» → region map (shadow-address map a) ≡ ShadowGap
+  pub high-shadow-into-gap : (a : ℕ) → map .«shadow_gap» < a → a ≤ map .«high_shadow»
+      → region map (shadow-address map a) ≡ ShadowGap
   unfolding shadow-address
   high-shadow-into-gap a first last =
       in-gap (a / granule + map .offset) (omega (arith, p .gap-first, p .low, p .gap)) (omega (arith, p .gap-last))
@@ -101,7 +106,8 @@ unfolding map-call
 map-call-at map a r e = ap (λ (s : Region). mapped s (shadow-address map a)) e
 
 -- 31 beyond the last address: no region, shadow address 0
-pub map-beyond : (map : Map) → Published map → (a : ℕ) → map .«high_mem» < a → map-call map a ≡ record { status = 31; region = 0; shadow = 0 }
+pub map-beyond : (map : Map) → Published map → (a : ℕ) → map .«high_mem» < a → map-call map a
+    ≡ record { status = 31; region = 0; shadow = 0 }
 unfolding map-status map-answer region-number map-shadow
 map-beyond map p a past = map-call-at map a Nowhere (beyond map p a past)
 

@@ -1,11 +1,13 @@
--- The laws of `put` and `fill`: the length stays, what is put stands in its place, and all else stands as it did. Assumes nothing.
+-- The laws of `put` and `fill`: the length stays, what is put stands in its place, and all else stands as it did.
+-- Assumes nothing.
 use Prim.Native.Nat.{ℕ, suc, _+_, _-_, _≤_, _<_, min, zero-le}
 use native.Mathlib.Nat.{add-zero}
 use native.Mathlib.Numerals.{add-one}
 use native.Mathlib.Omega.{arith}
 use mathlib.Core.Path.{_≡_, refl, sym, ap, subst, _∙_}
 use mathlib.Core.List.{List, [], _∷_, _++_, append-assoc, append-nil}
-use lib.ListN.{length, getD, take, drop, replicate, set, length-append, length-drop, length-replicate, length-set, take-append-drop, getD-replicate, List·getD-append}
+use lib.ListN.{length, getD, take, drop, replicate, set, length-append, length-drop, length-replicate, length-set}
+use lib.ListN.{take-append-drop, getD-replicate, List·getD-append}
 use lib.Seq.{length-take-le, take-suc, take-all, getD-append-add, getD-take, getD-drop, take-append-seam}
 use lib.Seq.{drop-append-add, drop-drop, drop-length, sets, sets-eq}
 use borrow.Author.Fill.{fill-none, fill-more}
@@ -18,16 +20,19 @@ pub put-nothing : (whole : List ℕ) (at : ℕ) → put whole at [] ≡ whole
 unfolding put
 put-nothing whole at = rw add-zero (take-append-drop at whole)
 
-pub length-put : (whole : List ℕ) (at : ℕ) (part : List ℕ) → at + length part ≤ length whole → length (put whole at part) ≡ length whole
+pub length-put : (whole : List ℕ) (at : ℕ) (part : List ℕ) → at + length part ≤ length whole
+    → length (put whole at part) ≡ length whole
 unfolding put
 length-put whole at part room =
     let front : length (take at whole) ≡ at = length-take-le at whole (omega arith) in
     simp (length-append, length-drop) (omega arith)
 
 -- in a buffer that has the room, as many stores
-pub put-sets : (whole : List ℕ) (at : ℕ) (part : List ℕ) → at + length part ≤ length whole → put whole at part ≡ sets whole at part
+pub put-sets : (whole : List ℕ) (at : ℕ) (part : List ℕ) → at + length part ≤ length whole → put whole at part
+    ≡ sets whole at part
 unfolding put
-put-sets whole at part room = sym (append-assoc (take at whole) part (drop (at + length part) whole)) ∙ sym (sets-eq part whole at room)
+put-sets whole at part room =
+    sym (append-assoc (take at whole) part (drop (at + length part) whole)) ∙ sym (sets-eq part whole at room)
 
 -- a part put store by store: nothing yet, one number more, all
 pub put-start : (whole : List ℕ) (at : ℕ) (part : List ℕ) → whole ≡ put whole at (take 0 part)
@@ -58,17 +63,20 @@ pub put-all : (whole : List ℕ) (at : ℕ) (part : List ℕ) (n : ℕ) → leng
 put-all whole at part n all = ap (put whole at) (take-all n part all)
 
 -- a part that was lent, once it is back
-pub put-lent : (whole : List ℕ) (at n : ℕ) (part : List ℕ) → length part ≡ n → take at whole ++ (part ++ drop n (drop at whole)) ≡ put whole at part
+pub put-lent : (whole : List ℕ) (at n : ℕ) (part : List ℕ) → length part ≡ n → take at whole
+    ++ (part ++ drop n (drop at whole)) ≡ put whole at part
 unfolding put
 put-lent whole at n part e =
     ap (λ l. take at whole ++ (part ++ l)) (drop-drop n at whole ∙ ap (λ m. drop (at + m) whole) (sym e))
 
 -- one part behind another
-pub put-behind : (whole first second : List ℕ) → put (put whole 0 first) (length first) second ≡ put whole 0 (first ++ second)
+pub put-behind : (whole first second : List ℕ) → put (put whole 0 first) (length first) second
+    ≡ put whole 0 (first ++ second)
 unfolding put
 put-behind whole first second =
     let rest : List ℕ = drop (0 + length first) whole in
-    let both-long : 0 + length first + length second ≡ 0 + length (first ++ second) = omega (arith, length-append first second) in
+    let both-long : 0 + length first + length second ≡ 0 + length (first ++ second) =
+    omega (arith, length-append first second) in
     rw (take-append-seam first rest, drop-append-add first rest (length second))
     (sym (append-assoc first second (drop (length second) rest))
     ∙ ap (λ l. (first ++ second) ++ l)
@@ -125,10 +133,12 @@ length-fill whole at n v =
     by-order at (length whole)
     (λ inside.
     length-put whole at (replicate (min n (length whole - at)) v)
-    (let e : length (replicate (min n (length whole - at)) v) ≡ min n (length whole - at) = length-replicate (min n (length whole - at)) v in omega arith))
+    (let e : length (replicate (min n (length whole - at)) v)
+    ≡ min n (length whole - at) = length-replicate (min n (length whole - at)) v in omega arith))
     (λ past. ap length (fill-past whole at n v past))
 
-pub fill-in : (whole : List ℕ) (at n v k d : ℕ) → at ≤ k → k < at + n → k < length whole → getD (fill whole at n v) k d ≡ v
+pub fill-in : (whole : List ℕ) (at n v k d : ℕ) → at ≤ k → k < at + n → k < length whole → getD (fill whole at n v) k d
+    ≡ v
 unfolding fill
 fill-in whole at n v k d from below in-whole =
     let m : ℕ = min n (length whole - at) in
@@ -151,7 +161,8 @@ fill-after whole at n v k d after =
     by-order at (length whole)
     (λ inside.
     put-after whole at (replicate (min n (length whole - at)) v) k d (omega arith)
-    (let e : length (replicate (min n (length whole - at)) v) ≡ min n (length whole - at) = length-replicate (min n (length whole - at)) v in omega arith))
+    (let e : length (replicate (min n (length whole - at)) v)
+    ≡ min n (length whole - at) = length-replicate (min n (length whole - at)) v in omega arith))
     (λ past. ap (λ l. getD l k d) (fill-past whole at n v past))
 
 -- ---- what stands at every place
@@ -170,7 +181,8 @@ put-each P whole at part room of-whole of-part k below =
     by-order k (at + length part)
     (λ in-part.
     let far : at + (k - at) ≡ k = omega arith in
-    subst P (sym (ap (λ m. getD (put whole at part) m 0) (sym far) ∙ put-in whole at part (k - at) 0 (omega arith) (omega arith)))
+    subst P (sym (ap (λ m. getD (put whole at part) m 0) (sym far)
+    ∙ put-in whole at part (k - at) 0 (omega arith) (omega arith)))
     (of-part (k - at) (omega arith)))
     (λ after. subst P (sym (put-after whole at part k 0 (omega arith) after)) (of-whole k in-whole)))
 
@@ -195,14 +207,16 @@ pub record Filled (v : ℕ) (start : List ℕ) (i : ℕ) (now : List ℕ) : Type
 pub filled-none : (v : ℕ) (start : List ℕ) → Filled v start 0 start
 filled-none v start = record { most = zero-le; same-length = refl; so-far = fill-none start v }
 
-pub filled-more : {v : ℕ} {start : List ℕ} {i : ℕ} {now : List ℕ} → Filled v start i now → i < length start → Filled v start (i + 1) (set now i v)
+pub filled-more : {v : ℕ} {start : List ℕ} {i : ℕ} {now : List ℕ} → Filled v start i now → i < length start
+    → Filled v start (i + 1) (set now i v)
 filled-more {v} {start} {i} {now} f below = record {
   most = omega arith;
   same-length = length-set now i v ∙ f .same-length;
   so-far = ap (λ l. set l i v) (f .so-far) ∙ fill-more i v start below;
 }
 
-pub filled-all : {v : ℕ} {start : List ℕ} {i : ℕ} {now : List ℕ} → Filled v start i now → length start ≤ i → now ≡ replicate (length start) v
+pub filled-all : {v : ℕ} {start : List ℕ} {i : ℕ} {now : List ℕ} → Filled v start i now → length start ≤ i → now
+    ≡ replicate (length start) v
 filled-all {v} {start} {i} {now} f past =
     let all : i ≡ length start = omega (arith, f .most) in
     f .so-far

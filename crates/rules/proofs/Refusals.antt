@@ -1,5 +1,5 @@
--- When the watcher says no, and only when: each number of the table the other way round. That a number is given where its row says
--- so is among the laws of its section; here, that it is given nowhere else. Assumes nothing.
+-- When the watcher says no, and only when: each number of the table the other way round. That a number is given where
+-- its row says so is among the laws of its section; here, that it is given nowhere else. Assumes nothing.
 use Prim.Native.Nat.{ℕ, _≤_, _<_}
 use native.Mathlib.Omega.{arith}
 use mathlib.Core.Path.{_≡_, refl, sym, ap, subst, _∙_}
@@ -13,14 +13,16 @@ use Rattle.rules.specs.declared.Answer.the-variants.{Done, BadKind, NotZ
 use Rattle.rules.specs.declared.Frame.{Frame}
 use Rattle.rules.specs.declared.Frame.the-variants.{Grant, Release, Read, Write, Refused}
 use Rattle.rules.specs.declared.Region.{Region}
-use Rattle.rules.specs.Limits.{between, least-granules, most-granules, least-redzone, most-redzone, kind-grant, kind-release, kind-read, kind-write, live, quarantined}
+use Rattle.rules.specs.Limits.{between, least-granules, most-granules, least-redzone, most-redzone, kind-grant}
+use Rattle.rules.specs.Limits.{kind-release, kind-read, kind-write, live, quarantined}
 use Rattle.rules.specs.Answers.{in-numbers, status, opening-status, call-in-numbers, call-status, map-status}
 use Rattle.rules.specs.Shadow.{kind, first-bad, FirstBad}
 use Rattle.rules.specs.Grant.{counted, granules, place, empty-row, grant-at, grant}
 use Rattle.rules.specs.Release.{row-at, release-row, release}
 use Rattle.rules.specs.Frames.{fields, frame}
 use Rattle.rules.specs.Watcher.{of-verdict, access, act, watcher, pool-of}
-use Rattle.rules.specs.Calls.{table-length, open-with, within-limits, fits-lent, grant-call, release-call, access-call, unfinished-call, feed}
+use Rattle.rules.specs.Calls.{table-length, open-with, within-limits, fits-lent, grant-call, release-call}
+use Rattle.rules.specs.Calls.{access-call, unfinished-call, feed}
 use Rattle.rules.specs.declared.Map.{Map}
 use Rattle.rules.specs.Maps.{region, map-answer, map-call, Published}
 use Rattle.rules.proofs.Tests.{by-found, by-order, by-test}
@@ -29,12 +31,15 @@ use Rattle.rules.proofs.Grant.{by-grant}
 use Rattle.rules.proofs.Release.{by-release}
 use Rattle.rules.proofs.Frames.{by-zero, by-kind}
 use Rattle.rules.proofs.Answers.{answered-not-24}
-use Rattle.rules.proofs.Calls.{by-open, grant-as-frame, release-as-frame, access-as-frame, unfinished-done, feed-done}
-use Rattle.rules.proofs.Maps.{in-low-mem, in-low-shadow, in-gap, in-high-shadow, in-high-mem, beyond, map-call-at}
+use Rattle.rules.proofs.Calls.{by-open, grant-as-frame, release-as-frame, access-as-frame, unfinished-done}
+use Rattle.rules.proofs.Calls.{feed-done}
+use Rattle.rules.proofs.Maps.{in-low-mem, in-low-shadow, in-gap, in-high-shadow, in-high-mem, beyond}
+use Rattle.rules.proofs.Maps.{map-call-at}
 
 -- ---- grants: 05 and 06
 
-pub only-05 : (R : ℕ) (shadow table : List ℕ) (s : ℕ) → status (grant R shadow table s .answer) ≡ 5 → empty-row table ≡ none
+pub only-05 : (R : ℕ) (shadow table : List ℕ) (s : ℕ) → status (grant R shadow table s .answer) ≡ 5 → empty-row table
+    ≡ none
 unfolding grant-at status in-numbers
 only-05 R shadow table s =
     by-grant R shadow table s (λ acted. status (acted .answer) ≡ 5 → empty-row table ≡ none)
@@ -45,7 +50,8 @@ pub only-06 : (R : ℕ) (shadow table : List ℕ) (s : ℕ) → status (grant R 
     → (empty-row table ≢ none) × (place shadow R (granules (counted s)) ≡ none)
 unfolding grant-at status in-numbers
 only-06 R shadow table s =
-    by-grant R shadow table s (λ acted. status (acted .answer) ≡ 6 → (empty-row table ≢ none) × (place shadow R (granules (counted s)) ≡ none))
+    by-grant R shadow table s (λ acted. status (acted .answer) ≡ 6 → (empty-row table ≢ none)
+    × (place shadow R (granules (counted s)) ≡ none))
     (λ full e. absurd (omega arith))
     (λ i row nowhere e. (λ full. Option·none-ne-some i (sym full ∙ row), nowhere))
     (λ i p row at e. absurd (omega arith))
@@ -80,7 +86,8 @@ pub access-good : (shadow : List ℕ) (a n : ℕ) → first-bad shadow a n ≡ n
 unfolding access of-verdict
 access-good shadow a n e = ap of-verdict (verdict-none shadow a n e)
 
-pub access-bad : (shadow : List ℕ) (a n b : ℕ) → first-bad shadow a n ≡ some b → access shadow a n ≡ NotGood (kind shadow b) b
+pub access-bad : (shadow : List ℕ) (a n b : ℕ) → first-bad shadow a n ≡ some b → access shadow a n
+    ≡ NotGood (kind shadow b) b
 unfolding access of-verdict
 access-bad shadow a n b e = ap of-verdict (verdict-some shadow a n b e)
 
@@ -120,7 +127,8 @@ by-frame kind A B P asked other not-zero =
 pub only-01 : (kind A B : ℕ) → refusal (frame (fields kind A B)) ≢ 1
 unfolding refusal status in-numbers
 only-01 kind A B =
-    by-frame kind A B (λ k. refusal k ≢ 1) (λ k fine e. absurd (omega arith)) (λ a b c d e. absurd (omega arith)) (λ above from small e. absurd (omega arith))
+    by-frame kind A B (λ k. refusal k ≢ 1) (λ k fine e. absurd (omega arith)) (λ a b c d e. absurd (omega arith))
+    (λ above from small e. absurd (omega arith))
 
 pub only-02 : (kind A B : ℕ) → refusal (frame (fields kind A B)) ≡ 2 → kind-grant ≤ kind → kind ≤ kind-write → ⊥
 unfolding refusal status in-numbers
@@ -130,7 +138,8 @@ only-02 kind A B =
     (λ a b c d e from upto. omega arith)
     (λ above least small e from upto. omega arith)
 
-pub only-03 : (kind A B : ℕ) → refusal (frame (fields kind A B)) ≡ 3 → (B ≢ 0) × (kind-grant ≤ kind) × (kind ≤ kind-release)
+pub only-03 : (kind A B : ℕ) → refusal (frame (fields kind A B)) ≡ 3 → (B ≢ 0) × (kind-grant ≤ kind)
+    × (kind ≤ kind-release)
 unfolding refusal status in-numbers
 only-03 kind A B =
     by-frame kind A B (λ k. refusal k ≡ 3 → (B ≢ 0) × (kind-grant ≤ kind) × (kind ≤ kind-release))
@@ -150,14 +159,17 @@ pub only-22 : (shadow table : List ℕ) (R Q : ℕ) → open-with shadow table R
     → (between least-granules most-granules (length shadow) ≡ true) × (between least-redzone most-redzone R ≡ false)
 unfolding opening-status
 only-22 shadow table R Q =
-    by-open shadow table R Q (λ o. o .given .status ≡ 22 → (between least-granules most-granules (length shadow) ≡ true) × (between least-redzone most-redzone R ≡ false))
+    by-open shadow table R Q (λ o. o .given .status ≡ 22 → (between least-granules most-granules (length shadow) ≡ true)
+    × (between least-redzone most-redzone R ≡ false))
     (λ a e. absurd (omega arith)) (λ a b e. (a, b)) (λ a b c e. absurd (omega arith)) (λ e. absurd (omega arith))
 
 pub only-23 : (shadow table : List ℕ) (R Q : ℕ) → open-with shadow table R Q .given .status ≡ 23
-    → (between least-granules most-granules (length shadow) ≡ true) × (between least-redzone most-redzone R ≡ true) × (table-length (length table) ≡ false)
+    → (between least-granules most-granules (length shadow) ≡ true) × (between least-redzone most-redzone R ≡ true)
+    × (table-length (length table) ≡ false)
 unfolding opening-status
 only-23 shadow table R Q =
-    by-open shadow table R Q (λ o. o .given .status ≡ 23 → (between least-granules most-granules (length shadow) ≡ true) × (between least-redzone most-redzone R ≡ true) × (table-length (length table) ≡ false))
+    by-open shadow table R Q (λ o. o .given .status ≡ 23 → (between least-granules most-granules (length shadow) ≡ true)
+    × (between least-redzone most-redzone R ≡ true) × (table-length (length table) ≡ false))
     (λ a e. absurd (omega arith)) (λ a b e. absurd (omega arith)) (λ a b c e. (a, b, c)) (λ e. absurd (omega arith))
 
 -- ---- later calls: 24
@@ -193,14 +205,19 @@ pub only-24-feed : (session : Session) (shadow table piece room : List ℕ)
 unfolding call-status call-in-numbers in-numbers
 only-24-feed session shadow table piece room e =
     by-test (fits-lent session shadow table)
-    (λ fits. absurd (omega (arith, ap (λ f. f .given .status) (feed-done watcher session (pool-of shadow table) piece room fits))))
+    (λ fits. absurd (omega (
+      arith,
+      ap (λ f. f .given .status)
+          (feed-done watcher session (pool-of shadow table) piece room fits),
+    )))
     (λ unfit. unfit)
 
 -- ---- maps: 31 and 32
 
 module _ (map : Map) (p : Published map) (a : ℕ) where
   -- what a map answers, by the region
-  answer-map : (P : ℕ → Type 0) → (map .«high_mem» < a → P 31) → (map .«low_shadow» < a → a ≤ map .«shadow_gap» → P 32) → P 0 → P (map-call map a .status)
+  answer-map : (P : ℕ → Type 0) → (map .«high_mem» < a → P 31) → (map .«low_shadow» < a → a ≤ map .«shadow_gap» → P 32)
+      → P 0 → P (map-call map a .status)
   unfolding map-status map-answer
   answer-map P past gap done =
       by-order (map .«low_mem») a
@@ -223,7 +240,9 @@ module _ (map : Map) (p : Published map) (a : ℕ) where
       at {r} e x = subst (λ m. P (m .status)) (sym (map-call-at map a r e)) x
 
   pub only-31 : map-call map a .status ≡ 31 → map .«high_mem» < a
-  only-31 = answer-map (λ n. n ≡ 31 → map .«high_mem» < a) (λ past e. past) (λ first last e. absurd (omega arith)) (λ e. absurd (omega arith))
+  only-31 =
+      answer-map (λ n. n ≡ 31 → map .«high_mem» < a) (λ past e. past) (λ first last e. absurd (omega arith))
+      (λ e. absurd (omega arith))
 
   pub only-32 : map-call map a .status ≡ 32 → (map .«low_shadow» < a) × (a ≤ map .«shadow_gap»)
   only-32 =

@@ -1,5 +1,5 @@
--- The laws of a release: what the oldest is, what an eviction leaves, that evictions go on exactly while the weights are above Q,
--- and that lengths stay. Assumes nothing.
+-- The laws of a release: what the oldest is, what an eviction leaves, that evictions go on exactly while the weights
+-- are above Q, and that lengths stay. Assumes nothing.
 use Prim.Native.Nat.{ℕ, zero, suc, _+_, _-_, _*_, _^_, _≤_, _<_, zero-le}
 use native.Mathlib.Nat.{le-of-eq}
 use native.Mathlib.Numerals.{add-one}
@@ -20,12 +20,16 @@ use Rattle.rules.specs.Lowest.{total}
 use Rattle.rules.specs.Table.{rows, column, start, size, state, turn, is-quarantined}
 use Rattle.rules.specs.Table.{set-number, zero-row, put-row, lessened}
 use Rattle.rules.specs.Grant.{Acted, unchanged, granules}
-use Rattle.rules.specs.Release.{starts-at, row-at, if-quarantined, in-quarantine, weight, weights, older, oldest, oldest-zero, oldest-here, oldest-other, Pool, paint-row, evict-row, evict-oldest, and-one-more, settle-in, settle, quarantine-row, release-row, release}
+use Rattle.rules.specs.Release.{starts-at, row-at, if-quarantined, in-quarantine, weight, weights, older, oldest}
+use Rattle.rules.specs.Release.{oldest-zero, oldest-here, oldest-other, Pool, paint-row, evict-row, evict-oldest}
+use Rattle.rules.specs.Release.{and-one-more, settle-in, settle, quarantine-row, release-row, release}
 use Rattle.rules.proofs.Tests.{by-found, by-order, by-test, if-false, if-true}
-use Rattle.rules.proofs.Lowest.{Lowest, lowest-some, lowest-none, below-all, total-change, le-total, total-above, total-most}
+use Rattle.rules.proofs.Lowest.{Lowest, lowest-some, lowest-none, below-all, total-change, le-total, total-above}
+use Rattle.rules.proofs.Lowest.{total-most}
 use Rattle.rules.proofs.Put.{length-fill, fill-in, fill-before, fill-after}
 use Rattle.rules.proofs.Table.{length-set-number, column-set-number, column-set-number-other}
-use Rattle.rules.proofs.Table.{column-set-number-elsewhere, rows-same, length-put-row, column-put-row, column-put-row-other, zero-row-zero}
+use Rattle.rules.proofs.Table.{column-set-number-elsewhere, rows-same, length-put-row, column-put-row}
+use Rattle.rules.proofs.Table.{column-put-row-other, zero-row-zero}
 use Rattle.rules.proofs.Table.{length-lessened, column-lessened, turn-lessened}
 use Rattle.rules.proofs.Grant.{SameLengths}
 
@@ -69,7 +73,8 @@ oldest-some table zero i e = absurd (Option·none-ne-some i (sym (oldest-zero ta
 oldest-some table (suc n) i e =
     by-test (is-quarantined table n)
     (λ here.
-    let chosen : older table (oldest table n) n ≡ i = Option·some-injective (older table (oldest table n) n) i (sym (oldest-here table n here) ∙ e) in
+    let chosen : older table (oldest table n) n ≡ i =
+    Option·some-injective (older table (oldest table n) n) i (sym (oldest-here table n here) ∙ e) in
     by-found (oldest table n)
     (λ k found·.
     let o : Oldest table n k = oldest-some table n k found· in
@@ -80,7 +85,8 @@ oldest-some table (suc n) i e =
     (record {
       below = omega arith;
       held = here;
-      least = upto (λ j. is-quarantined table j ≡ true → turn table n ≤ turn table j) n (λ q. omega arith) (λ j b q. omega (arith, o .least j b q));
+      least = upto (λ j. is-quarantined table j ≡ true → turn table n ≤ turn table j) n (λ q. omega arith)
+          (λ j b q. omega (arith, o .least j b q));
       first = λ j b q. omega (arith, o .least j b q);
     }))
     (λ kept·.
@@ -88,7 +94,8 @@ oldest-some table (suc n) i e =
     (record {
       below = omega (arith, o .below);
       held = o .held;
-      least = upto (λ j. is-quarantined table j ≡ true → turn table k ≤ turn table j) n (λ q. kept·) (λ j b q. o .least j b q);
+      least = upto (λ j. is-quarantined table j ≡ true → turn table k ≤ turn table j) n (λ q. kept·)
+          (λ j b q. o .least j b q);
       first = o .first;
     })))
     (λ nothing.
@@ -106,7 +113,8 @@ oldest-some table (suc n) i e =
     record {
       below = omega (arith, o .below);
       held = o .held;
-      least = upto (λ j. is-quarantined table j ≡ true → turn table i ≤ turn table j) n (λ q. absurd (true≢false (sym q ∙ other))) (o .least);
+      least = upto (λ j. is-quarantined table j ≡ true → turn table i ≤ turn table j) n
+          (λ q. absurd (true≢false (sym q ∙ other))) (o .least);
       first = o .first;
     })
 
@@ -122,7 +130,8 @@ oldest-is table n i o =
     (λ e. absurd (true≢false (sym (o .held) ∙ oldest-none table n e i (o .below))))
 
 -- it goes by the states and turns of those rows alone
-pub oldest-same : (table other : List ℕ) (n : ℕ) → ((j : ℕ) → j < n → (state table j ≡ state other j) × (turn table j ≡ turn other j))
+pub oldest-same : (table other : List ℕ) (n : ℕ)
+    → ((j : ℕ) → j < n → (state table j ≡ state other j) × (turn table j ≡ turn other j))
     → oldest table n ≡ oldest other n
 oldest-same table other n same =
     by-found (oldest table n)
@@ -137,7 +146,8 @@ oldest-same table other n same =
       below = o .below;
       held = ap (λ s. eqb s quarantined) (sym (same i (o .below) .0)) ∙ o .held;
       least = λ j b q. omega (arith, o .least j b (as-held j b q), same i (o .below) .1, same j b .1);
-      first = λ j b q. let c : j < n = omega (arith, o .below) in omega (arith, o .first j b (as-held j c q), same i (o .below) .1, same j c .1);
+      first = λ j b q. let c : j < n =
+          omega (arith, o .below) in omega (arith, o .first j b (as-held j c q), same i (o .below) .1, same j c .1);
     })))
     (λ e.
     e
@@ -145,11 +155,13 @@ oldest-same table other n same =
     (by-found (oldest other n)
     (λ i f.
     let o : Oldest other n i = oldest-some other n i f in
-    absurd (true≢false (sym (ap (λ s. eqb s quarantined) (same i (o .below) .0) ∙ o .held) ∙ oldest-none table n e i (o .below))))
+    absurd (true≢false (sym (ap (λ s. eqb s quarantined) (same i (o .below) .0) ∙ o .held)
+    ∙ oldest-none table n e i (o .below))))
     (λ f. f)))
 
 -- lessening one row more does not change which of the rows before it is the oldest
-pub oldest-lessened : (table : List ℕ) (n : ℕ) → n < rows table → oldest (lessened table n) n ≡ oldest (lessened table (suc n)) n
+pub oldest-lessened : (table : List ℕ) (n : ℕ) → n < rows table → oldest (lessened table n) n
+    ≡ oldest (lessened table (suc n)) n
 oldest-lessened table n below =
     oldest-same (lessened table n) (lessened table (suc n)) n
     (λ j b. (
@@ -161,11 +173,13 @@ oldest-lessened table n below =
 -- ---- an eviction
 
 -- a number for a quarantined row, and for another
-pub if-quarantined-yes : (table : List ℕ) (f : ℕ → ℕ) (i : ℕ) → is-quarantined table i ≡ true → if-quarantined table f i ≡ f i
+pub if-quarantined-yes : (table : List ℕ) (f : ℕ → ℕ) (i : ℕ) → is-quarantined table i ≡ true → if-quarantined table f i
+    ≡ f i
 unfolding if-quarantined
 if-quarantined-yes table f i e = if-true _ _ e
 
-pub if-quarantined-no : (table : List ℕ) (f : ℕ → ℕ) (i : ℕ) → is-quarantined table i ≡ false → if-quarantined table f i ≡ 0
+pub if-quarantined-no : (table : List ℕ) (f : ℕ → ℕ) (i : ℕ) → is-quarantined table i ≡ false → if-quarantined table f i
+    ≡ 0
 unfolding if-quarantined
 if-quarantined-no table f i e = if-false _ _ e
 
@@ -173,7 +187,8 @@ if-quarantined-no table f i e = if-false _ _ e
 pub if-quarantined-same : (table other : List ℕ) (f g : ℕ → ℕ) (i : ℕ) → state table i ≡ state other i → f i ≡ g i
     → if-quarantined table f i ≡ if-quarantined other g i
 unfolding if-quarantined
-if-quarantined-same table other f g i states numbers = ap₂ {C = ℕ} (λ (s n : ℕ). elim (eqb s quarantined) as (λ _. ℕ) [ true ↦ n | false ↦ 0 ]) states numbers
+if-quarantined-same table other f g i states numbers =
+    ap₂ {C = ℕ} (λ (s n : ℕ). elim (eqb s quarantined) as (λ _. ℕ) [ true ↦ n | false ↦ 0 ]) states numbers
 
 -- what is summed over the quarantined rows of a table, by their sizes: their number and their weights
 abbrev part-quarantined : (ℕ → ℕ) → List ℕ → ℕ → ℕ
@@ -188,7 +203,8 @@ sum-change : (f : ℕ → ℕ) (table other : List ℕ) (i : ℕ) → i < rows t
     → sum-quarantined f table + part-quarantined f other i ≡ sum-quarantined f other + part-quarantined f table i
 sum-change f table other i below same-rows same =
     total-change (part-quarantined f table) (part-quarantined f other) (rows table) i below
-    (λ j other·. if-quarantined-same table other (λ k. f (size table k)) (λ k. f (size other k)) j (same j other· .0) (ap f (same j other· .1)))
+    (λ j other·. if-quarantined-same table other (λ k. f (size table k)) (λ k. f (size other k)) j (same j other· .0)
+    (ap f (same j other· .1)))
     ∙ ap (λ n. total (part-quarantined f other) n + part-quarantined f table i) same-rows
 
 module _ (pool : Pool) (i : ℕ) (below : i < rows (pool .table)) where
@@ -231,7 +247,8 @@ module _ (pool : Pool) (i : ℕ) (below : i < rows (pool .table)) where
       ∙ column-put-row-other (pool .table) i zero-row below k j in-row other-row
 
   -- and its turn is lessened
-  pub evict-row-turn : (j : ℕ) → j < rows (pool .table) → j ≢ i → turn (evict-row pool i .table) j ≡ turn (pool .table) j - 1
+  pub evict-row-turn : (j : ℕ) → j < rows (pool .table) → j ≢ i → turn (evict-row pool i .table) j
+      ≡ turn (pool .table) j - 1
   unfolding evict-row emptied
   evict-row-turn j in-rows other =
       turn-lessened emptied (rows (pool .table)) j emptied-rows in-rows
@@ -243,20 +260,23 @@ module _ (pool : Pool) (i : ℕ) (below : i < rows (pool .table)) where
   evict-row-sum f held =
       let table : List ℕ = pool .table in
       let other : List ℕ = evict-row pool i .table in
-      let change : sum-quarantined f table + part-quarantined f other i ≡ sum-quarantined f other + part-quarantined f table i =
+      let change : sum-quarantined f table + part-quarantined f other i
+      ≡ sum-quarantined f other + part-quarantined f table i =
       sum-change f table other i below (sym evict-row-rows)
       (λ j other·. (
         sym (evict-row-other state-column j (omega arith) (omega arith) other·),
         sym (evict-row-other size-column j (omega arith) (omega arith) other·),
       )) in
-      let own : part-quarantined f table i ≡ f (size table i) = if-quarantined-yes table (λ j. f (size table j)) i held in
+      let own : part-quarantined f table i ≡ f (size table i) =
+      if-quarantined-yes table (λ j. f (size table j)) i held in
       let none· : part-quarantined f other i ≡ 0 =
       if-quarantined-no other (λ j. f (size other j)) i
       (ne-eqb (state other i) quarantined (omega (arith, evict-row-empty state-column (omega arith)))) in
       omega arith
 
   -- one fewer is quarantined
-  pub evict-row-count : is-quarantined (pool .table) i ≡ true → in-quarantine (pool .table) ≡ suc (in-quarantine (evict-row pool i .table))
+  pub evict-row-count : is-quarantined (pool .table) i ≡ true → in-quarantine (pool .table)
+      ≡ suc (in-quarantine (evict-row pool i .table))
   unfolding in-quarantine
   evict-row-count held = evict-row-sum (λ _. 1) held ∙ add-one (sum-quarantined (λ _. 1) (evict-row pool i .table))
 
@@ -271,20 +291,25 @@ unfolding paint-row
 paint-row-length pool i v = length-fill (pool .shadow) (start (pool .table) i) (granules (size (pool .table) i)) v
 
 -- the row's granules that exist become v
-pub paint-row-in : (pool : Pool) (i v k : ℕ) → start (pool .table) i ≤ k → k < start (pool .table) i + granules (size (pool .table) i)
+pub paint-row-in : (pool : Pool) (i v k : ℕ) → start (pool .table) i ≤ k → k
+    < start (pool .table) i + granules (size (pool .table) i)
     → k < length (pool .shadow) → getD (paint-row pool i v) k 0 ≡ v
 unfolding paint-row
-paint-row-in pool i v k from below exists = fill-in (pool .shadow) (start (pool .table) i) (granules (size (pool .table) i)) v k 0 from below exists
+paint-row-in pool i v k from below exists =
+    fill-in (pool .shadow) (start (pool .table) i) (granules (size (pool .table) i)) v k 0 from below exists
 
 -- and no other granule changes
-pub paint-row-before : (pool : Pool) (i v k : ℕ) → k < start (pool .table) i → getD (paint-row pool i v) k 0 ≡ getD (pool .shadow) k 0
+pub paint-row-before : (pool : Pool) (i v k : ℕ) → k < start (pool .table) i → getD (paint-row pool i v) k 0
+    ≡ getD (pool .shadow) k 0
 unfolding paint-row
-paint-row-before pool i v k before = fill-before (pool .shadow) (start (pool .table) i) (granules (size (pool .table) i)) v k 0 before
+paint-row-before pool i v k before =
+    fill-before (pool .shadow) (start (pool .table) i) (granules (size (pool .table) i)) v k 0 before
 
 pub paint-row-after : (pool : Pool) (i v k : ℕ) → start (pool .table) i + granules (size (pool .table) i) ≤ k
     → getD (paint-row pool i v) k 0 ≡ getD (pool .shadow) k 0
 unfolding paint-row
-paint-row-after pool i v k after = fill-after (pool .shadow) (start (pool .table) i) (granules (size (pool .table) i)) v k 0 after
+paint-row-after pool i v k after =
+    fill-after (pool .shadow) (start (pool .table) i) (granules (size (pool .table) i)) v k 0 after
 
 -- the shadow after an eviction: fa in the row's granules
 pub evict-row-shadow : (pool : Pool) (i : ℕ) → evict-row pool i .shadow ≡ paint-row pool i redzone-byte
@@ -293,12 +318,14 @@ evict-row-shadow pool i = refl
 
 -- ---- evictions
 
-pub evict-oldest-is : (pool : Pool) (i : ℕ) → oldest (pool .table) (rows (pool .table)) ≡ some i → evict-oldest pool ≡ evict-row pool i
+pub evict-oldest-is : (pool : Pool) (i : ℕ) → oldest (pool .table) (rows (pool .table)) ≡ some i → evict-oldest pool
+    ≡ evict-row pool i
 unfolding evict-oldest
 evict-oldest-is pool i e = rw (e, evict-oldest)
 
 -- a quarantined row weighs what its block weighs
-pub weights-of : (R : ℕ) (table : List ℕ) (i : ℕ) → i < rows table → is-quarantined table i ≡ true → weight R (size table i) ≤ weights R table
+pub weights-of : (R : ℕ) (table : List ℕ) (i : ℕ) → i < rows table → is-quarantined table i ≡ true
+    → weight R (size table i) ≤ weights R table
 unfolding weights
 weights-of R table i below held =
     let f : ℕ → ℕ = if-quarantined table (λ j. weight R (size table j)) in
@@ -314,7 +341,8 @@ some-oldest R Q table heavy =
     let f : ℕ → ℕ = if-quarantined table (λ j. weight R (size table j)) in
     let above : (k : ℕ) × (k < rows table) × (0 < f k) = total-above f (rows table) (omega arith) in
     let none· : f (above .0) ≡ 0 =
-    if-quarantined-no table (λ j. weight R (size table j)) (above .0) (oldest-none table (rows table) nothing (above .0) (above .1)) in
+    if-quarantined-no table (λ j. weight R (size table j)) (above .0)
+    (oldest-none table (rows table) nothing (above .0) (above .1)) in
     absurd (omega (arith, above .2)))
 
 -- each eviction leaves one fewer quarantined
@@ -324,10 +352,12 @@ evict-oldest-count R Q pool heavy =
     let i : ℕ = some-oldest R Q (pool .table) heavy .0 in
     let e : oldest (pool .table) (rows (pool .table)) ≡ some i = some-oldest R Q (pool .table) heavy .1 in
     let o : Oldest (pool .table) (rows (pool .table)) i = oldest-some (pool .table) (rows (pool .table)) i e in
-    evict-row-count pool i (o .below) (o .held) ∙ ap (λ p. suc (in-quarantine (p .table))) (sym (evict-oldest-is pool i e))
+    evict-row-count pool i (o .below) (o .held)
+    ∙ ap (λ p. suc (in-quarantine (p .table))) (sym (evict-oldest-is pool i e))
 
 -- the two equations of `settle`: nothing after them looks at the count
-pub settle-done : (R Q : ℕ) (pool : Pool) → weights R (pool .table) ≤ Q → settle R Q pool ≡ record { pool = pool; evicted = 0 }
+pub settle-done : (R Q : ℕ) (pool : Pool) → weights R (pool .table) ≤ Q → settle R Q pool
+    ≡ record { pool = pool; evicted = 0 }
 unfolding settle settle-in
 settle-done R Q pool light = go (in-quarantine (pool .table))
   where
@@ -335,7 +365,8 @@ settle-done R Q pool light = go (in-quarantine (pool .table))
     go zero = refl
     go (suc n) = if-false _ _ (le-ltb Q (weights R (pool .table)) light)
 
-pub settle-more : (R Q : ℕ) (pool : Pool) → Q < weights R (pool .table) → settle R Q pool ≡ and-one-more (settle R Q (evict-oldest pool))
+pub settle-more : (R Q : ℕ) (pool : Pool) → Q < weights R (pool .table) → settle R Q pool
+    ≡ and-one-more (settle R Q (evict-oldest pool))
 unfolding settle settle-in
 settle-more R Q pool heavy =
     ap (λ n. settle-in n R Q pool) (evict-oldest-count R Q pool heavy) ∙ go (in-quarantine (evict-oldest pool .table))
@@ -350,7 +381,8 @@ by-evictions R Q P done more pool = go (in-quarantine (pool .table)) pool refl
   where
     go : (n : ℕ) (p : Pool) → in-quarantine (p .table) ≡ n → P p
     go zero p e =
-        by-order Q (weights R (p .table)) (λ heavy. absurd (omega (arith, evict-oldest-count R Q p heavy))) (λ light. done p light)
+        by-order Q (weights R (p .table)) (λ heavy. absurd (omega (arith, evict-oldest-count R Q p heavy)))
+        (λ light. done p light)
     go (suc n) p e =
         by-order Q (weights R (p .table))
         (λ heavy. more p heavy (go n (evict-oldest p) (omega (arith, evict-oldest-count R Q p heavy))))
@@ -367,7 +399,8 @@ settled-has R Q P evicting =
     let i : ℕ = some-oldest R Q (pool .table) heavy .0 in
     let e : oldest (pool .table) (rows (pool .table)) ≡ some i = some-oldest R Q (pool .table) heavy .1 in
     let o : Oldest (pool .table) (rows (pool .table)) i = oldest-some (pool .table) (rows (pool .table)) i e in
-    subst (λ s. P (s .pool)) (sym (settle-more R Q pool heavy)) (ih (subst P (sym (evict-oldest-is pool i e)) (evicting pool i o p))))
+    subst (λ s. P (s .pool)) (sym (settle-more R Q pool heavy))
+    (ih (subst P (sym (evict-oldest-is pool i e)) (evicting pool i o p))))
 
 -- once all are done the weights sum to at most Q
 pub settle-light : (R Q : ℕ) (pool : Pool) → weights R (settle R Q pool .pool .table) ≤ Q
@@ -377,12 +410,16 @@ settle-light R Q =
     (λ pool heavy ih. subst (λ s. weights R (s .pool .table) ≤ Q) (sym (settle-more R Q pool heavy)) ih)
 
 -- the number evicted is the number of rows that left the quarantine
-pub settle-count : (R Q : ℕ) (pool : Pool) → settle R Q pool .evicted + in-quarantine (settle R Q pool .pool .table) ≡ in-quarantine (pool .table)
+pub settle-count : (R Q : ℕ) (pool : Pool) → settle R Q pool .evicted + in-quarantine (settle R Q pool .pool .table)
+    ≡ in-quarantine (pool .table)
 settle-count R Q =
-    by-evictions R Q (λ pool. settle R Q pool .evicted + in-quarantine (settle R Q pool .pool .table) ≡ in-quarantine (pool .table))
-    (λ pool light. subst (λ s. s .evicted + in-quarantine (s .pool .table) ≡ in-quarantine (pool .table)) (sym (settle-done R Q pool light)) (omega arith))
+    by-evictions R Q (λ pool. settle R Q pool .evicted + in-quarantine (settle R Q pool .pool .table)
+    ≡ in-quarantine (pool .table))
+    (λ pool light. subst (λ s. s .evicted + in-quarantine (s .pool .table) ≡ in-quarantine (pool .table))
+    (sym (settle-done R Q pool light)) (omega arith))
     (λ pool heavy ih.
-    subst (λ s. s .evicted + in-quarantine (s .pool .table) ≡ in-quarantine (pool .table)) (sym (settle-more R Q pool heavy))
+    subst (λ s. s .evicted + in-quarantine (s .pool .table) ≡ in-quarantine (pool .table))
+    (sym (settle-more R Q pool heavy))
     (omega (arith, evict-oldest-count R Q pool heavy)))
 
 -- a sum over the quarantined ones of n rows is at most so much for each row
@@ -413,14 +450,17 @@ weight-size R s = refl
 pub weight-most : (R s : ℕ) → R ≤ most-redzone → s < 2 ^ 32 → weight R s ≤ 2 ^ 33
 weight-most R s near fits = omega (arith, weight-size R s)
 
-pub weights-most : (R : ℕ) (table : List ℕ) → R ≤ most-redzone → ((j : ℕ) → size table j < 2 ^ 32) → weights R table ≤ rows table * 2 ^ 33
+pub weights-most : (R : ℕ) (table : List ℕ) → R ≤ most-redzone → ((j : ℕ) → size table j < 2 ^ 32) → weights R table
+    ≤ rows table * 2 ^ 33
 unfolding weights
-weights-most R table near fits = quarantined-most (weight R) (2 ^ 33) table (rows table) (λ j below. weight-most R (size table j) near (fits j))
+weights-most R table near fits =
+    quarantined-most (weight R) (2 ^ 33) table (rows table) (λ j below. weight-most R (size table j) near (fits j))
 
 -- so a block heavier than Q leaves at once
 pub none-heavier : (R Q : ℕ) (pool : Pool) (i : ℕ) → i < rows (settle R Q pool .pool .table)
     → is-quarantined (settle R Q pool .pool .table) i ≡ true → weight R (size (settle R Q pool .pool .table) i) ≤ Q
-none-heavier R Q pool i below held = omega (arith, weights-of R (settle R Q pool .pool .table) i below held, settle-light R Q pool)
+none-heavier R Q pool i below held =
+    omega (arith, weights-of R (settle R Q pool .pool .table) i below held, settle-light R Q pool)
 
 -- ---- a row becomes quarantined
 
@@ -463,7 +503,8 @@ module _ (pool : Pool) (i : ℕ) (below : i < rows (pool .table)) where
       ∙ column-set-number-other state-column (pool .table) i quarantined k i (omega arith) in-row no-state
 
   -- and so does every other row
-  pub quarantine-row-other : (k j : ℕ) → k < row-numbers → j ≢ i → column k (quarantine-row pool i .table) j ≡ column k (pool .table) j
+  pub quarantine-row-other : (k j : ℕ) → k < row-numbers → j ≢ i → column k (quarantine-row pool i .table) j
+      ≡ column k (pool .table) j
   unfolding quarantine-row held-table
   quarantine-row-other k j in-row other =
       column-set-number-elsewhere turn-column held-table i own-turn k j (omega arith) in-row other
@@ -475,7 +516,8 @@ module _ (pool : Pool) (i : ℕ) (below : i < rows (pool .table)) where
   quarantine-row-sum f other =
       let table : List ℕ = pool .table in
       let held : List ℕ = quarantine-row pool i .table in
-      let change : sum-quarantined f table + part-quarantined f held i ≡ sum-quarantined f held + part-quarantined f table i =
+      let change : sum-quarantined f table + part-quarantined f held i
+      ≡ sum-quarantined f held + part-quarantined f table i =
       sum-change f table held i below (rows-same table held (sym (quarantine-row-lengths .1)))
       (λ j other·. (
         sym (quarantine-row-other state-column j (omega arith) other·),
@@ -514,12 +556,14 @@ module _ (pool : Pool) (i : ℕ) (below : i < rows (pool .table)) where
   quarantine-row-alone nothing =
       let held : List ℕ = quarantine-row pool i .table in
       let no-other : (j : ℕ) → j < rows (pool .table) → j ≢ i → is-quarantined held j ≡ true → ⊥ =
-      λ j b other q. true≢false (sym (quarantined-before j other q .0) ∙ oldest-none (pool .table) (rows (pool .table)) nothing j b) in
+      λ j b other q. true≢false (sym (quarantined-before j other q .0)
+      ∙ oldest-none (pool .table) (rows (pool .table)) nothing j b) in
       oldest-is held (rows (pool .table)) i
       (record {
         below = below;
         held = own-held;
-        least = each-row (λ j. j < rows (pool .table) → is-quarantined held j ≡ true → turn held i ≤ turn held j) (λ b q. omega arith) (λ j other b q. absurd (no-other j b other q));
+        least = each-row (λ j. j < rows (pool .table) → is-quarantined held j ≡ true → turn held i ≤ turn held j)
+            (λ b q. omega arith) (λ j other b q. absurd (no-other j b other q));
         first = λ j b q. absurd (no-other j (omega arith) (λ e. absurd (omega arith)) q);
       })
 
@@ -538,8 +582,14 @@ module _ (pool : Pool) (i : ℕ) (below : i < rows (pool .table)) where
           below = below;
           held = own-held;
           least =
-              each-row (λ j. j < rows (pool .table) → is-quarantined held j ≡ true → turn held i ≤ turn held j) (λ b q. omega arith)
-              (λ j other b q. omega (arith, quarantined-before j other q .1, o .least j b (quarantined-before j other q .0)));
+              each-row (λ j. j < rows (pool .table) → is-quarantined held j ≡ true → turn held i ≤ turn held j)
+              (λ b q. omega arith)
+              (λ j other b q. omega (
+                arith,
+                quarantined-before j other q .1,
+                o .least j b
+                    (quarantined-before j other q .0),
+              ));
           first =
               λ j b q.
               let other : j ≢ i = λ same. absurd (omega arith) in
@@ -562,11 +612,23 @@ module _ (pool : Pool) (i : ℕ) (below : i < rows (pool .table)) where
           below = o .below;
           held = ap (λ s. eqb s quarantined) (quarantine-row-other state-column k (omega arith) apart) ∙ o .held;
           least =
-              each-row (λ j. j < rows (pool .table) → is-quarantined held j ≡ true → turn held k ≤ turn held j) (λ b q. omega arith)
-              (λ j other b q. omega (arith, quarantined-before j other q .1, o .least j b (quarantined-before j other q .0)));
+              each-row (λ j. j < rows (pool .table) → is-quarantined held j ≡ true → turn held k ≤ turn held j)
+              (λ b q. omega arith)
+              (λ j other b q. omega (
+                arith,
+                quarantined-before j other q .1,
+                o .least j b
+                    (quarantined-before j other q .0),
+              ));
           first =
-              each-row (λ j. j < k → is-quarantined held j ≡ true → turn held k < turn held j) (λ b q. omega (arith, strict b))
-              (λ j other b q. omega (arith, quarantined-before j other q .1, o .first j b (quarantined-before j other q .0)));
+              each-row (λ j. j < k → is-quarantined held j ≡ true → turn held k < turn held j)
+              (λ b q. omega (arith, strict b))
+              (λ j other b q. omega (
+                arith,
+                quarantined-before j other q .1,
+                o .first j b
+                    (quarantined-before j other q .0),
+              ));
         })
 
 -- ---- the row that starts at an address
@@ -582,14 +644,16 @@ pub at-true : (wanted : ℕ) (table : List ℕ) (a i : ℕ) → (eqb (state tabl
     → (state table i ≡ wanted) × (granule * start table i ≡ a)
 unfolding starts-at
 at-true wanted table a i e =
-    let both : (eqb (state table i) wanted ≡ true) × (starts-at table a i ≡ true) = and-eq-true-iff (eqb (state table i) wanted) (starts-at table a i) .0 e in
+    let both : (eqb (state table i) wanted ≡ true) × (starts-at table a i ≡ true) =
+    and-eq-true-iff (eqb (state table i) wanted) (starts-at table a i) .0 e in
     (eqb-true (state table i) wanted (both .0), eqb-true (granule * start table i) a (both .1))
 
 pub at-is : (wanted : ℕ) (table : List ℕ) (a i : ℕ) → state table i ≡ wanted → granule * start table i ≡ a
     → (eqb (state table i) wanted && starts-at table a i) ≡ true
 unfolding starts-at
 at-is wanted table a i has at =
-    and-eq-true-iff (eqb (state table i) wanted) (starts-at table a i) .1 (eq-eqb (state table i) wanted has, eq-eqb (granule * start table i) a at)
+    and-eq-true-iff (eqb (state table i) wanted) (starts-at table a i) .1
+    (eq-eqb (state table i) wanted has, eq-eqb (granule * start table i) a at)
 
 pub row-at-some : (wanted : ℕ) (table : List ℕ) (a i : ℕ) → row-at wanted table a ≡ some i → StartsAt wanted table a i
 unfolding row-at
@@ -622,12 +686,14 @@ pub release-done : (R Q : ℕ) (shadow table : List ℕ) (a i : ℕ) → a ≢ 0
 unfolding release
 release-done R Q shadow table a i above e = if-false _ _ (ne-eqb a 0 above) ∙ rw e
 
-pub release-twice : (R Q : ℕ) (shadow table : List ℕ) (a i : ℕ) → a ≢ 0 → row-at live table a ≡ none → row-at quarantined table a ≡ some i
+pub release-twice : (R Q : ℕ) (shadow table : List ℕ) (a i : ℕ) → a ≢ 0 → row-at live table a ≡ none
+    → row-at quarantined table a ≡ some i
     → release R Q shadow table a ≡ unchanged Released shadow table
 unfolding release
 release-twice R Q shadow table a i above e f = if-false _ _ (ne-eqb a 0 above) ∙ rw e (rw f)
 
-pub release-foreign : (R Q : ℕ) (shadow table : List ℕ) (a : ℕ) → a ≢ 0 → row-at live table a ≡ none → row-at quarantined table a ≡ none
+pub release-foreign : (R Q : ℕ) (shadow table : List ℕ) (a : ℕ) → a ≢ 0 → row-at live table a ≡ none
+    → row-at quarantined table a ≡ none
     → release R Q shadow table a ≡ unchanged NotHeld shadow table
 unfolding release
 release-foreign R Q shadow table a above e f = if-false _ _ (ne-eqb a 0 above) ∙ rw e (rw f)
@@ -638,11 +704,13 @@ pub by-release {ℓ} : (R Q : ℕ) (shadow table : List ℕ) (a : ℕ) (P : Acte
     → (a ≢ 0 → row-at live table a ≡ none → row-at quarantined table a ≡ none → P (unchanged NotHeld shadow table))
     → (a ≢ 0 → row-at live table a ≡ none → (i : ℕ) → row-at quarantined table a ≡ some i
     → P (unchanged Released shadow table))
-    → (a ≢ 0 → (i : ℕ) → row-at live table a ≡ some i → P (release-row R Q (record { shadow = shadow; table = table }) i))
+    → (a ≢ 0 → (i : ℕ) → row-at live table a ≡ some i
+    → P (release-row R Q (record { shadow = shadow; table = table }) i))
     → P (release R Q shadow table a)
 by-release R Q shadow table a P nothing foreign twice done =
     elim (ℕ-discrete a 0) [
-      | yes e ↦ subst (λ b. P (release R Q shadow table b)) (sym e) (subst P (sym (release-nothing R Q shadow table)) (nothing e))
+      | yes e ↦ subst (λ b. P (release R Q shadow table b)) (sym e)
+          (subst P (sym (release-nothing R Q shadow table)) (nothing e))
       | no above ↦
           by-found (row-at live table a)
           (λ i e. subst P (sym (release-done R Q shadow table a i above e)) (done above i e))
@@ -664,6 +732,9 @@ release-lengths R Q shadow table a =
     (λ above i e.
     let pool : Pool = record { shadow = shadow; table = table } in
     settled-has R Q (SamePool shadow table)
-    (λ p j o same.
-    (ap length (evict-row-shadow p j) ∙ paint-row-length p j redzone-byte ∙ same .0, evict-row-length p j (o .below) ∙ same .1))
+    (λ p j o same. (
+      ap length (evict-row-shadow p j) ∙ paint-row-length p j redzone-byte ∙ same .0,
+      evict-row-length p j (o .below)
+          ∙ same .1,
+    ))
     (quarantine-row pool i) (quarantine-row-lengths pool i (row-at-some live table a i e .below)))

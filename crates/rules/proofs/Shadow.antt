@@ -13,7 +13,8 @@ use borrow.Author.Tests.{ltb-true, not-true, not-false, lt-ltb, le-ltb, ne-eqb}
 use Rattle.rules.specs.declared.Verdict.{Verdict}
 use Rattle.rules.specs.declared.Verdict.the-variants.{Good, Bad}
 use Rattle.rules.specs.Limits.{granule, most-granules, outside}
-use Rattle.rules.specs.Shadow.{leading, signed, negative, inside, shadow-of, addressable, kind, first-bad, judge, AllGood, FirstBad}
+use Rattle.rules.specs.Shadow.{leading, signed, negative, inside, shadow-of, addressable, kind, first-bad, judge}
+use Rattle.rules.specs.Shadow.{AllGood, FirstBad}
 use Rattle.rules.proofs.Tests.{by-found, by-order, by-test, if-false, if-true}
 use Rattle.rules.proofs.Lowest.{Lowest, lowest-some, lowest-none, lowest-is, lowest-no}
 
@@ -25,7 +26,8 @@ leading-all = refl
 
 pub leading-first : (v : ℕ) → 0 < v → v < granule → leading v ≡ v
 unfolding leading
-leading-first v above below = if-false _ _ (ne-eqb v 0 (λ e. absurd (omega arith))) ∙ if-true _ _ (lt-ltb v granule below)
+leading-first v above below =
+    if-false _ _ (ne-eqb v 0 (λ e. absurd (omega arith))) ∙ if-true _ _ (lt-ltb v granule below)
 
 pub leading-none : (v : ℕ) → granule ≤ v → leading v ≡ 0
 unfolding leading
@@ -34,7 +36,9 @@ leading-none v from = if-false _ _ (ne-eqb v 0 (λ e. absurd (omega arith))) ∙
 pub leading-most : (v : ℕ) → leading v ≤ granule
 leading-most v =
     by-order v granule
-    (λ less. by-order 0 v (λ above. subst (λ m. m ≤ granule) (sym (leading-first v above less)) (omega arith)) (λ none·. let e : v ≡ 0 = omega arith in subst (λ m. leading m ≤ granule) (sym e) (subst (λ m. m ≤ granule) (sym leading-all) (omega arith))))
+    (λ less. by-order 0 v (λ above. subst (λ m. m ≤ granule) (sym (leading-first v above less)) (omega arith))
+    (λ none·. let e : v ≡ 0 = omega arith in subst (λ m. leading m ≤ granule) (sym e)
+    (subst (λ m. m ≤ granule) (sym leading-all) (omega arith))))
     (λ more. subst (λ m. m ≤ granule) (sym (leading-none v more)) (omega arith))
 
 signed-below : (v : ℕ) → v < 128 → signed v ≡ pos v
@@ -74,8 +78,8 @@ poisoned-negative v written none· =
 pub unwritten-poisoned : (v : ℕ) → 8 ≤ v → v < 128 → leading v ≡ 0
 unwritten-poisoned v from below = leading-none v from
 
--- the published test of one byte: addressable where the shadow byte is 0, or byte j of the granule is below it as a signed
--- number. It holds of every byte but 08 to 7f, which the published rule never writes
+-- the published test of one byte: addressable where the shadow byte is 0, or byte j of the granule is below it as a
+-- signed number. It holds of every byte but 08 to 7f, which the published rule never writes
 pub published-test : (v j : ℕ) → j < granule → (8 ≤ v → 128 ≤ v) → ltb j (leading v) ≡ eqb v 0 || ltZ (pos j) (signed v)
 published-test v j in-granule written =
     by-order v 8
@@ -87,21 +91,30 @@ published-test v j in-granule written =
     let all : v ≡ 0 = omega arith in
     rw (all, leading-all, lt-ltb j granule in-granule)))
     (λ large.
-    rw (leading-none v large, ne-eqb v 0 (λ e. absurd (omega arith)), signed-from v (written large), le-ltb j 0 zero-le))
+    rw (
+      leading-none v large,
+      ne-eqb v 0 (λ e. absurd (omega arith)),
+      signed-from v (written large),
+      le-ltb j 0 zero-le,
+    ))
 
 -- ---- addressable bytes
 
 pub addressable-inside : (shadow : List ℕ) (a : ℕ) → addressable shadow a ≡ true → a < granule * length shadow
 unfolding addressable inside
-addressable-inside shadow a e = ltb-true a (granule * length shadow) (and-eq-true-iff (inside shadow a) (ltb (a % granule) (leading (shadow-of shadow a))) .0 e .0)
+addressable-inside shadow a e =
+    ltb-true a (granule * length shadow)
+    (and-eq-true-iff (inside shadow a) (ltb (a % granule) (leading (shadow-of shadow a))) .0 e .0)
 
-pub addressable-leading : (shadow : List ℕ) (a : ℕ) → addressable shadow a ≡ true → a % granule < leading (shadow-of shadow a)
+pub addressable-leading : (shadow : List ℕ) (a : ℕ) → addressable shadow a ≡ true → a % granule
+    < leading (shadow-of shadow a)
 unfolding addressable
 addressable-leading shadow a e =
     ltb-true (a % granule) (leading (shadow-of shadow a))
     (and-eq-true-iff (inside shadow a) (ltb (a % granule) (leading (shadow-of shadow a))) .0 e .1)
 
-pub addressable-is : (shadow : List ℕ) (a : ℕ) → a < granule * length shadow → a % granule < leading (shadow-of shadow a) → addressable shadow a ≡ true
+pub addressable-is : (shadow : List ℕ) (a : ℕ) → a < granule * length shadow → a % granule
+    < leading (shadow-of shadow a) → addressable shadow a ≡ true
 unfolding addressable inside
 addressable-is shadow a in-arena in-leading =
     and-eq-true-iff (inside shadow a) (ltb (a % granule) (leading (shadow-of shadow a))) .1
@@ -168,7 +181,8 @@ pub verdict-none : (shadow : List ℕ) (a n : ℕ) → first-bad shadow a n ≡ 
 unfolding judge
 verdict-none shadow a n e = rw (e, judge)
 
-pub verdict-some : (shadow : List ℕ) (a n b : ℕ) → first-bad shadow a n ≡ some b → judge shadow a n ≡ Bad (kind shadow b) b
+pub verdict-some : (shadow : List ℕ) (a n b : ℕ) → first-bad shadow a n ≡ some b → judge shadow a n
+    ≡ Bad (kind shadow b) b
 unfolding judge
 verdict-some shadow a n b e = rw (e, judge)
 
@@ -190,7 +204,8 @@ good-judge shadow a n e =
     (λ b f. absurd (good-not-bad (kind shadow b) b (sym e ∙ verdict-some shadow a n b f)))
     (λ f. first-bad-none shadow a n f)
 
-pub bad-judge : (shadow : List ℕ) (a n k b : ℕ) → judge shadow a n ≡ Bad k b → FirstBad shadow a n b × (k ≡ kind shadow b)
+pub bad-judge : (shadow : List ℕ) (a n k b : ℕ) → judge shadow a n ≡ Bad k b → FirstBad shadow a n b
+    × (k ≡ kind shadow b)
 bad-judge shadow a n k b e =
     by-found (first-bad shadow a n)
     (λ c f.
@@ -207,10 +222,12 @@ judge-nothing shadow a = judge-good shadow a 0 (λ j from below. absurd (omega a
 -- the first bad byte is the address itself, or at most the arena's end: it has 32 bits where these have
 pub first-bad-most : (shadow : List ℕ) (a n b : ℕ) → FirstBad shadow a n b → a < b → b ≤ granule * length shadow
 first-bad-most shadow a n b f above =
-    let last : b - 1 < granule * length shadow = addressable-inside shadow (b - 1) (f .first (b - 1) (omega arith) (omega arith)) in
+    let last : b - 1 < granule * length shadow =
+    addressable-inside shadow (b - 1) (f .first (b - 1) (omega arith) (omega arith)) in
     omega arith
 
-pub first-bad-fits : (shadow : List ℕ) (a n b : ℕ) → FirstBad shadow a n b → a < 2 ^ 32 → length shadow ≤ most-granules → b < 2 ^ 32
+pub first-bad-fits : (shadow : List ℕ) (a n b : ℕ) → FirstBad shadow a n b → a < 2 ^ 32 → length shadow ≤ most-granules
+    → b < 2 ^ 32
 first-bad-fits shadow a n b f fits most =
     by-order a b
     (λ above. omega (arith, first-bad-most shadow a n b f above))

@@ -1,5 +1,5 @@
--- The laws of the table: a number that is set and a row that is put are read back, every other column and every other row
--- stands as it did, and lessening touches turns alone. Each holds for whatever columns there are. Assumes nothing.
+-- The laws of the table: a number that is set and a row that is put are read back, every other column and every other
+-- row stands as it did, and lessening touches turns alone. Each holds for whatever columns there are. Assumes nothing.
 use Prim.Native.Nat.{ℕ, zero, suc, _+_, _-_, _*_, _/_, _≤_, _<_}
 use native.Mathlib.Omega.{arith}
 use mathlib.Core.Path.{_≡_, refl, sym, ap, _∙_}
@@ -119,14 +119,16 @@ pub row-of-zeros : (table : List ℕ) (i : ℕ) → ((k : ℕ) → k < row-numbe
 row-of-zeros table i zeros = same-by (λ k. column k table i) (λ _. 0) zeros
 
 -- and its numbers are the columns
-pub numbers-of-row : (table : List ℕ) (i k : ℕ) → k < row-numbers → column k table i ≡ getD (numbers (row-of table i)) k 0
+pub numbers-of-row : (table : List ℕ) (i k : ℕ) → k < row-numbers → column k table i
+    ≡ getD (numbers (row-of table i)) k 0
 numbers-of-row table i zero in-row = refl
 numbers-of-row table i (suc zero) in-row = refl
 numbers-of-row table i (suc (suc zero)) in-row = refl
 numbers-of-row table i (suc (suc (suc zero))) in-row = refl
 numbers-of-row table i (suc (suc (suc (suc k)))) in-row = absurd (omega arith)
 
-pub zeros-of-row : (table : List ℕ) (i : ℕ) → row-of table i ≡ zero-row → (k : ℕ) → k < row-numbers → column k table i ≡ 0
+pub zeros-of-row : (table : List ℕ) (i : ℕ) → row-of table i ≡ zero-row → (k : ℕ) → k < row-numbers → column k table i
+    ≡ 0
 zeros-of-row table i is-zero k in-row =
     numbers-of-row table i k in-row ∙ ap (λ row. getD (numbers row) k 0) is-zero ∙ zero-row-zero k
 
@@ -157,7 +159,8 @@ column-lessened table (suc n) k i in-row other =
 turn-set-elsewhere : (table : List ℕ) (n i : ℕ) → i ≢ n
     → turn (set-number turn-column (lessened table n) n (turn table n - 1)) i ≡ turn (lessened table n) i
 turn-set-elsewhere table n i other =
-    column-set-number-elsewhere turn-column (lessened table n) n (turn table n - 1) turn-column i (omega arith) (omega arith) other
+    column-set-number-elsewhere turn-column (lessened table n) n (turn table n - 1) turn-column i (omega arith)
+    (omega arith) other
 
 -- the turns from row n on are as they were
 pub turn-kept : (table : List ℕ) (n i : ℕ) → n ≤ i → turn (lessened table n) i ≡ turn table i

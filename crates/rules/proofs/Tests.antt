@@ -1,5 +1,5 @@
--- Choices, and tests as facts: a choice whose test is known, the cases of a test, of a search and of an order, two tests joined, a
--- test asked by its contrary, and a number between its limits. Assumes nothing.
+-- Choices, and tests as facts: a choice whose test is known, the cases of a test, of a search and of an order, two
+-- tests joined, a test asked by its contrary, and a number between its limits. Assumes nothing.
 use Prim.Native.Nat.{ℕ, _≤_, _<_}
 use native.Mathlib.Decide.{decLt}
 use native.Mathlib.Omega.{arith}

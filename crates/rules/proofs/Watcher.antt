@@ -1,4 +1,5 @@
--- The laws of the watcher's engine: a refused line changes neither shadow nor table, and every line keeps their lengths. Assumes nothing.
+-- The laws of the watcher's engine: a refused line changes neither shadow nor table, and every line keeps their
+-- lengths. Assumes nothing.
 use Prim.Native.Nat.{ℕ, _*_}
 use mathlib.Core.Path.{_≡_, refl, sym, ap, _∙_}
 use mathlib.Core.Logic.{_≢_}
@@ -42,7 +43,8 @@ release-refused R Q shadow table a =
     (λ above i e refused. absurd (refused refl))
 
 -- whatever a line asks: refused, it changes neither
-pub act-refused : (session : Session) (shadow table : List ℕ) (frame : Frame) → RefusedKeeps shadow table (act session shadow table frame)
+pub act-refused : (session : Session) (shadow table : List ℕ) (frame : Frame)
+    → RefusedKeeps shadow table (act session shadow table frame)
 unfolding act
 act-refused session shadow table (Grant s) = grant-refused (session .redzone) shadow table s
 act-refused session shadow table (Release a) = release-refused (session .redzone) (session .quarantine) shadow table a
@@ -56,7 +58,8 @@ pub read-as-write : (session : Session) (shadow table : List ℕ) (a n : ℕ)
 unfolding act
 read-as-write session shadow table a n = refl
 
-pub act-lengths : (session : Session) (shadow table : List ℕ) (frame : Frame) → SameLengths shadow table (act session shadow table frame)
+pub act-lengths : (session : Session) (shadow table : List ℕ) (frame : Frame)
+    → SameLengths shadow table (act session shadow table frame)
 unfolding act
 act-lengths session shadow table (Grant s) = grant-lengths (session .redzone) shadow table s
 act-lengths session shadow table (Release a) = release-lengths (session .redzone) (session .quarantine) shadow table a
@@ -66,7 +69,8 @@ act-lengths session shadow table (Refused answer) = (refl, refl)
 
 -- a refused line changes neither shadow nor table
 pub finish-refused : (st : State Pool) → status (act-line watcher st .answer) ≢ 0
-    → (finish watcher st .state .pool .shadow ≡ st .pool .shadow) × (finish watcher st .state .pool .table ≡ st .pool .table)
+    → (finish watcher st .state .pool .shadow ≡ st .pool .shadow)
+    × (finish watcher st .state .pool .table ≡ st .pool .table)
 unfolding finish act-line
 finish-refused st refused = act-refused (st .session) (st .pool .shadow) (st .pool .table) _ refused
 
@@ -74,7 +78,8 @@ finish-refused st refused = act-refused (st .session) (st .pool .shadow) (st .po
 
 abbrev pub SameSizes : State Pool → State Pool → Type 0
 SameSizes st other =
-    (length (other .pool .shadow) ≡ length (st .pool .shadow)) × (length (other .pool .table) ≡ length (st .pool .table))
+    (length (other .pool .shadow) ≡ length (st .pool .shadow))
+    × (length (other .pool .table) ≡ length (st .pool .table))
 
 pub step-lengths : (st : State Pool) (b : ℕ) → SameSizes st (step watcher st b .state)
 unfolding finish hold act-line

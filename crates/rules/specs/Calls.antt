@@ -14,7 +14,8 @@ use Rattle.rules.specs.declared.CallAnswer.{CallAnswer}
 use Rattle.rules.specs.declared.CallAnswer.the-variants.{Answered, BadSession}
 use Rattle.rules.specs.declared.OpeningAnswer.{OpeningAnswer}
 use Rattle.rules.specs.declared.OpeningAnswer.the-variants.{Open, BadShadowLength, BadRedzone, BadTableLength}
-use Rattle.rules.specs.Limits.{between, least-granules, most-granules, least-rows, most-rows, row-numbers, least-redzone, most-redzone, frame-digits, too-long, redzone-byte}
+use Rattle.rules.specs.Limits.{between, least-granules, most-granules, least-rows, most-rows, row-numbers}
+use Rattle.rules.specs.Limits.{least-redzone, most-redzone, frame-digits, too-long, redzone-byte}
 use Rattle.rules.specs.Answers.{opening-status, call-status}
 use Rattle.rules.specs.Lowest.{all-equal, AllEqual}
 use Rattle.rules.specs.Put.{put}

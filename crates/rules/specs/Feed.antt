@@ -1,4 +1,5 @@
--- A text, whatever engine acts on its lines: the unfinished line; one byte, `step`; a text, `run`; and how far a piece is taken.
+-- A text, whatever engine acts on its lines: the unfinished line; one byte, `step`; a text, `run`; and how far a piece
+-- is taken.
 use Prim.Native.Nat.{ℕ, suc, _+_, _-_}
 use mathlib.Core.Path.{_≡_, refl}
 use mathlib.Core.Bool.{Bool, true, false}
@@ -46,8 +47,8 @@ pub record Outcome (P : Type 0) : Type 0 where
   pub answer : Answer
   pub pool : P
 
--- an engine acts on frames, over pools of one kind: whether a pool is lent in the lengths of a session of so many granules and rows, and
--- what a frame does to it
+-- an engine acts on frames, over pools of one kind: whether a pool is lent in the lengths of a session of so many
+-- granules and rows, and what a frame does to it
 pub record Engine (P : Type 0) : Type 0 where
   pub lent : ℕ → ℕ → P → Bool
   pub act : Session → P → Frame → Outcome P
@@ -72,7 +73,11 @@ act-line engine st = engine .act (st .session) (st .pool) (frame-of-line (st .se
 unfoldable pub finish : {P : Type 0} → Engine P → State P → Ran P
 finish {P} engine st =
     let done : Outcome P = act-line engine st in
-    record { state = record { session = emptied (st .session); pool = done .pool }; report = answer-line (done .answer) }
+    record {
+      state = record { session = emptied (st .session); pool = done .pool };
+      report = answer-line
+          (done .answer);
+    }
 
 -- any other byte is not acted on
 unfoldable pub hold : {P : Type 0} → State P → ℕ → Ran P
@@ -118,12 +123,14 @@ unfolding taken
 taken-nil room = refl
 
 -- a byte that is no line feed is taken
-pub taken-byte : (b : ℕ) (piece : List ℕ) (room : ℕ) → eqb b line-feed ≡ false → taken (b ∷ piece) room ≡ suc (taken piece room)
+pub taken-byte : (b : ℕ) (piece : List ℕ) (room : ℕ) → eqb b line-feed ≡ false → taken (b ∷ piece) room
+    ≡ suc (taken piece room)
 unfolding taken
 taken-byte b piece room e = rw (e, taken)
 
 -- a line feed is taken with its answer's room, and not without
-pub taken-answered : (piece : List ℕ) (room : ℕ) → ltb room answer-bytes ≡ false → taken (line-feed ∷ piece) room ≡ suc (taken piece (room - answer-bytes))
+pub taken-answered : (piece : List ℕ) (room : ℕ) → ltb room answer-bytes ≡ false → taken (line-feed ∷ piece) room
+    ≡ suc (taken piece (room - answer-bytes))
 unfolding taken
 taken-answered piece room e = rw (e, taken)
 

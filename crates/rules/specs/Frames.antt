@@ -11,7 +11,8 @@ use Rattle.rules.specs.declared.Line.{Line}
 use Rattle.rules.specs.declared.Line.the-variants.{Of, NotDigits}
 use Rattle.rules.specs.declared.Frame.{Frame}
 use Rattle.rules.specs.declared.Frame.the-variants.{Grant, Release, Read, Write, Refused}
-use Rattle.rules.specs.Limits.{frame-fields, frame-kind, frame-A, frame-B, frame-digits, line-feed, answer-fields, kind-grant, kind-release, kind-read, kind-write}
+use Rattle.rules.specs.Limits.{frame-fields, frame-kind, frame-A, frame-B, frame-digits, line-feed, answer-fields}
+use Rattle.rules.specs.Limits.{kind-grant, kind-release, kind-read, kind-write}
 use Rattle.rules.specs.Hex.{written, read-field}
 use Rattle.rules.specs.Answers.{in-numbers}
 

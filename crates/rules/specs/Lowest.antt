@@ -1,5 +1,5 @@
--- "The lowest that ..": the lowest number that passes a test, and the sum of numbers. Every search, every walk over a window and
--- every count of the rules is one of these, and each runs upward, as the loops do. Assumes nothing.
+-- "The lowest that ..": the lowest number that passes a test, and the sum of numbers. Every search, every walk over a
+-- window and every count of the rules is one of these, and each runs upward, as the loops do. Assumes nothing.
 use Prim.Native.Nat.{ℕ, zero, suc, _+_, _≤_, _<_}
 use mathlib.Core.Path.{_≡_, refl}
 use mathlib.Core.Bool.{Bool, true, false, not}

@@ -13,12 +13,16 @@ use Rattle.rules.specs.Table.{rows, column, set-number, put-row, lessene
 use Rattle.rules.specs.Shadow.{leading, inside, shadow-of, addressable, kind, first-bad, judge}
 use Rattle.rules.specs.Answers.{in-numbers, status, opening-status, call-in-numbers, call-status}
 use Rattle.rules.specs.Grant.{counted, granules, fits, place, last-granule, granted, empty-row, grant-at, grant}
-use Rattle.rules.specs.Release.{Pool, starts-at, row-at, if-quarantined, in-quarantine, weight, weights, older, oldest, paint-row, evict-row, evict-oldest, settle-in, settle, quarantine-row, release-row, release}
+use Rattle.rules.specs.Release.{Pool, starts-at, row-at, if-quarantined, in-quarantine, weight, weights, older}
+use Rattle.rules.specs.Release.{oldest, paint-row, evict-row, evict-oldest, settle-in, settle, quarantine-row}
+use Rattle.rules.specs.Release.{release-row, release}
 use Rattle.rules.specs.Hex.{hex-digit, number-on, number, digit, digits, written, read-field}
-use Rattle.rules.specs.Frames.{fields, fields-of-digits, fields-of-line, with-zero, frame, asked, frame-of-line, answer-line, line-of}
+use Rattle.rules.specs.Frames.{fields, fields-of-digits, fields-of-line, with-zero, frame, asked, frame-of-line}
+use Rattle.rules.specs.Frames.{answer-line, line-of}
 use Rattle.rules.specs.Feed.{State, Ran, with-line, emptied, lengthened, act-line, finish, hold, step, run, taken}
 use Rattle.rules.specs.Watcher.{of-verdict, access, act, lent-lengths, watcher, state-of}
-use Rattle.rules.specs.Calls.{fresh, table-length, OpenedWith, open-with, unused-zero, within-limits, fits-session, fits-lent, feed-by, feed}
+use Rattle.rules.specs.Calls.{fresh, table-length, OpenedWith, open-with, unused-zero, within-limits}
+use Rattle.rules.specs.Calls.{fits-session, fits-lent, feed-by, feed}
 
 -- a text's bytes
 unfoldable pub bytes : String → List ℕ
@@ -91,13 +95,13 @@ state-after = state-of (fresh 16 4 2 16) shadow-after table-after
 -- every definition that a text goes through: to unfold this one is to unfold them all
 unfoldable pub by-the-rules : State Pool → List ℕ → Ran Pool
 unfolding bytes text opened open-with table-length status in-numbers opening-status call-in-numbers call-status
-    run step hold finish act-line act lengthened emptied access of-verdict
-    judge first-bad kind addressable shadow-of inside leading lowest all-equal total put fill rows column set-number put-row lessened
-    counted granules fits place last-granule granted empty-row grant-at grant
-    starts-at row-at if-quarantined in-quarantine weight weights older oldest paint-row evict-row evict-oldest settle-in settle quarantine-row release-row release
-    hex-digit number-on number digit digits written read-field
-    fields-of-digits fields-of-line with-zero frame asked frame-of-line answer-line line-of
-    taken unused-zero within-limits lent-lengths fits-session feed-by
+    run step hold finish act-line act lengthened emptied access of-verdict judge first-bad kind addressable
+    shadow-of inside leading lowest all-equal total put fill rows column set-number put-row lessened counted
+    granules fits place last-granule granted empty-row grant-at grant starts-at row-at if-quarantined
+    in-quarantine weight weights older oldest paint-row evict-row evict-oldest settle-in settle quarantine-row
+    release-row release hex-digit number-on number digit digits written read-field fields-of-digits
+    fields-of-line with-zero frame asked frame-of-line answer-line line-of taken unused-zero within-limits
+    lent-lengths fits-session feed-by
 by-the-rules = run watcher
 
 -- S = 16, R = 2, Q = 16, 4 rows: the whole report, the shadow, the rows and the session after
@@ -134,13 +138,16 @@ one-row = refl
 -- ---- how readings would get lost, where the night alone does not show it
 
 -- an access near ffffffff does not wrap into the live block at 10
-pub no-wrap : run watcher state-after (text ("03fffffffc00000020" ∷ [])) ≡ record { state = state-after; report = text ("09fffffffffc" ∷ []) }
+pub no-wrap : run watcher state-after (text ("03fffffffc00000020" ∷ []))
+    ≡ record { state = state-after; report = text ("09fffffffffc" ∷ []) }
 unfolding by-the-rules
 no-wrap = refl
 
--- the unaligned access of source document 000, bytes 6 to 9 of a block of 8, is reported at its first byte past the block
+-- the unaligned access of source document 000, bytes 6 to 9 of a block of 8, is reported at its first byte past the
+-- block
 pub unaligned :
-    run watcher (opened 16 2 16 4) (text ("010000000800000000" ∷ "040000001600000004" ∷ [])) .report ≡ text ("000000000010" ∷ "09fa00000018" ∷ [])
+    run watcher (opened 16 2 16 4) (text ("010000000800000000" ∷ "040000001600000004" ∷ [])) .report
+    ≡ text ("000000000010" ∷ "09fa00000018" ∷ [])
 unfolding by-the-rules
 unaligned = refl
 
@@ -150,23 +157,27 @@ unaligned = refl
 pub sizes :
     run watcher (opened 24 2 0 5)
     (text
-    ("010000000000000000" ∷ "010000000100000000" ∷ "010000000700000000" ∷ "010000000800000000" ∷ "010000000900000000" ∷ "010000000100000000" ∷ []))
+    ("010000000000000000" ∷ "010000000100000000" ∷ "010000000700000000" ∷ "010000000800000000" ∷ "010000000900000000"
+    ∷ "010000000100000000" ∷ []))
     ≡ record {
       state = record {
         session = fresh 24 5 2 0;
         pool = record {
-          shadow = 0xfa ∷ 0xfa ∷ 0x01 ∷ 0xfa ∷ 0xfa ∷ 0x01 ∷ 0xfa ∷ 0xfa ∷ 0x07 ∷ 0xfa ∷ 0xfa ∷ 0x00 ∷ 0xfa ∷ 0xfa ∷ 0x00 ∷ 0x01 ∷ replicate 8 0xfa;
+          shadow = 0xfa ∷ 0xfa ∷ 0x01 ∷ 0xfa ∷ 0xfa ∷ 0x01 ∷ 0xfa ∷ 0xfa ∷ 0x07 ∷ 0xfa ∷ 0xfa ∷ 0x00 ∷ 0xfa ∷ 0xfa
+              ∷ 0x00 ∷ 0x01 ∷ replicate 8 0xfa;
           table = 2 ∷ 1 ∷ 1 ∷ 0 ∷ 5 ∷ 1 ∷ 1 ∷ 0 ∷ 8 ∷ 7 ∷ 1 ∷ 0 ∷ 11 ∷ 8 ∷ 1 ∷ 0 ∷ 14 ∷ 9 ∷ 1 ∷ 0 ∷ [];
         };
       };
-      report = text ("000000000010" ∷ "000000000028" ∷ "000000000040" ∷ "000000000058" ∷ "000000000070" ∷ "050000000000" ∷ []);
+      report = text ("000000000010" ∷ "000000000028" ∷ "000000000040" ∷ "000000000058" ∷ "000000000070" ∷ "050000000000"
+          ∷ []);
     }
 unfolding by-the-rules
 sizes = refl
 
 -- of 16 granules the largest block has 12, 96 bytes; one byte more has no place, nor has the largest size there is
 pub largest :
-    run watcher (opened 16 2 0 2) (text ("01ffffffff00000000" ∷ "010000006100000000" ∷ "010000006000000000" ∷ [])) .report
+    run watcher (opened 16 2 0 2) (text
+    ("01ffffffff00000000" ∷ "010000006100000000" ∷ "010000006000000000" ∷ [])) .report
     ≡ text ("060000000000" ∷ "060000000000" ∷ "000000000010" ∷ [])
 unfolding by-the-rules
 largest = refl
@@ -175,16 +186,19 @@ largest = refl
 pub edges :
     run watcher state-after
     (text
-    ("030000000000000001" ∷ "030000007f00000001" ∷ "030000008000000001" ∷ "030000008000000000" ∷ "03ffffffff00000001" ∷ "03ffffffffffffffff" ∷ "03ffffffff00000000" ∷ []))
+    ("030000000000000001" ∷ "030000007f00000001" ∷ "030000008000000001" ∷ "030000008000000000" ∷ "03ffffffff00000001"
+    ∷ "03ffffffffffffffff" ∷ "03ffffffff00000000" ∷ []))
     .report
     ≡ text
-    ("09fa00000000" ∷ "09fa0000007f" ∷ "09ff00000080" ∷ "000000000000" ∷ "09ffffffffff" ∷ "09ffffffffff" ∷ "000000000000" ∷ [])
+    ("09fa00000000" ∷ "09fa0000007f" ∷ "09ff00000080" ∷ "000000000000" ∷ "09ffffffffff" ∷ "09ffffffffff"
+    ∷ "000000000000" ∷ [])
 unfolding by-the-rules
 edges = refl
 
 -- the live block of 16 bytes at 10: whole, its last byte, one byte past it and one before it
 pub block-edges :
-    run watcher state-after (text ("030000001000000010" ∷ "030000001f00000001" ∷ "030000001f00000002" ∷ "030000000f00000002" ∷ [])) .report
+    run watcher state-after (text ("030000001000000010" ∷ "030000001f00000001" ∷ "030000001f00000002"
+    ∷ "030000000f00000002" ∷ [])) .report
     ≡ text ("000000000000" ∷ "000000000000" ∷ "09fa00000020" ∷ "09fa0000000f" ∷ [])
 unfolding by-the-rules
 block-edges = refl
@@ -196,15 +210,18 @@ pub line-spelt : line-of (fields kind-grant 13 0) ≡ text ("010000000d00000000"
 unfolding by-the-rules
 line-spelt = refl
 
--- digits of either case; a carriage return, a digit too few, one too many and an empty line are refused 01, then 02 and 03
+-- digits of either case; a carriage return, a digit too few, one too many and an empty line are refused 01, then 02 and
+-- 03
 pub lines :
     run watcher state-after
     (text
-    ("03FFFFFFFF00000000" ∷ "03000000100000001\r" ∷ "03000000100000001" ∷ "0300000010000000010" ∷ "" ∷ "050000000000000000" ∷ "020000001000000001" ∷ []))
+    ("03FFFFFFFF00000000" ∷ "03000000100000001\r" ∷ "03000000100000001" ∷ "0300000010000000010" ∷ ""
+    ∷ "050000000000000000" ∷ "020000001000000001" ∷ []))
     ≡ record {
       state = state-after;
       report = text
-          ("000000000000" ∷ "010000000000" ∷ "010000000000" ∷ "010000000000" ∷ "010000000000" ∷ "020000000000" ∷ "030000000000" ∷ []);
+          ("000000000000" ∷ "010000000000" ∷ "010000000000" ∷ "010000000000" ∷ "010000000000" ∷ "020000000000"
+          ∷ "030000000000" ∷ []);
     }
 unfolding by-the-rules
 lines = refl
@@ -231,9 +248,9 @@ unfinished-21 = refl
 
 -- ---- scribbled buffers: the same rules apply to whatever is found
 
--- S = 8, Q = ffffffff. Row 0 reaches past the shadow, rows 1 and 2 weigh more than 32 bits hold between them, row 3 is in no state.
--- Row 0 is released: its turn is 3, as theirs is, so it leaves first, being the lower row, and then row 1. Every other row's turn is
--- lessened twice, row 3's too. A shadow byte 7f makes no byte addressable
+-- S = 8, Q = ffffffff. Row 0 reaches past the shadow, rows 1 and 2 weigh more than 32 bits hold between them, row 3 is
+-- in no state. Row 0 is released: its turn is 3, as theirs is, so it leaves first, being the lower row, and then row 1.
+-- Every other row's turn is lessened twice, row 3's too. A shadow byte 7f makes no byte addressable
 pub scribbled :
     run watcher
     (record {

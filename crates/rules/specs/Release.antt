@@ -45,13 +45,15 @@ older table (some i) n = elim (ltb (turn table n) (turn table i)) [ true ↦ n |
 -- of the first n rows, the quarantined one with the lowest turn, on equal turns the lower row
 unfoldable pub oldest : List ℕ → ℕ → Option ℕ
 oldest table zero = none
-oldest table (suc n) = elim (is-quarantined table n) [ true ↦ some (older table (oldest table n) n) | false ↦ oldest table n ]
+oldest table (suc n) =
+    elim (is-quarantined table n) [ true ↦ some (older table (oldest table n) n) | false ↦ oldest table n ]
 
 pub oldest-zero : (table : List ℕ) → oldest table zero ≡ none
 unfolding oldest
 oldest-zero table = refl
 
-pub oldest-here : (table : List ℕ) (n : ℕ) → is-quarantined table n ≡ true → oldest table (suc n) ≡ some (older table (oldest table n) n)
+pub oldest-here : (table : List ℕ) (n : ℕ) → is-quarantined table n ≡ true → oldest table (suc n)
+    ≡ some (older table (oldest table n) n)
 unfolding oldest
 oldest-here table n e = rw (e, oldest)
 
@@ -87,8 +89,9 @@ pub record Settled : Type 0 where
 abbrev pub and-one-more : Settled → Settled
 and-one-more settled = record { pool = settled .pool; evicted = settled .evicted + 1 }
 
--- while the weights sum to more than Q, the oldest is evicted; each eviction leaves one fewer quarantined, so as many rounds
--- as are quarantined are enough: `settle-done` and `settle-more`, in the laws, are the equations, and nothing else looks at the count
+-- while the weights sum to more than Q, the oldest is evicted; each eviction leaves one fewer quarantined, so as many
+-- rounds as are quarantined are enough: `settle-done` and `settle-more`, in the laws, are the equations, and nothing
+-- else looks at the count
 unfoldable pub settle-in : ℕ → ℕ → ℕ → Pool → Settled
 settle-in zero R Q pool = record { pool = pool; evicted = 0 }
 settle-in (suc left) R Q pool =
@@ -100,8 +103,8 @@ settle-in (suc left) R Q pool =
 unfoldable pub settle : ℕ → ℕ → Pool → Settled
 settle R Q pool = settle-in (in-quarantine (pool .table)) R Q pool
 
--- row i becomes quarantined, its granules fd, its turn the number of quarantined rows, itself counted; its other numbers
--- stay
+-- row i becomes quarantined, its granules fd, its turn the number of quarantined rows, itself counted; its other
+-- numbers stay
 unfoldable pub quarantine-row : Pool → ℕ → Pool
 quarantine-row pool i = record {
   shadow = paint-row pool i released-byte;
@@ -116,7 +119,8 @@ release-row R Q pool i =
     let settled : Settled = settle R Q (quarantine-row pool i) in
     record { answer = Done (settled .evicted); shadow = settled .pool .shadow; table = settled .pool .table }
 
--- address 0 is done and changes nothing; 07 where no held row starts at a, 08 where no live row does but a quarantined one
+-- address 0 is done and changes nothing; 07 where no held row starts at a, 08 where no live row does but a quarantined
+-- one
 unfoldable pub release : ℕ → ℕ → List ℕ → List ℕ → ℕ → Acted
 release R Q shadow table a =
     elim (eqb a 0) [

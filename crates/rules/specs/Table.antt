@@ -1,5 +1,5 @@
--- The table: rows of numbers, start granule, size in bytes, state and turn. A table is any list of numbers, scribbled ones
--- too.
+-- The table: rows of numbers, start granule, size in bytes, state and turn. A table is any list of numbers, scribbled
+-- ones too.
 use Prim.Native.Nat.{ℕ, zero, suc, _+_, _-_, _*_, _/_}
 use mathlib.Core.Path.{_≡_, refl}
 use mathlib.Core.Bool.{Bool}

@@ -1,5 +1,5 @@
-// The paper's limits and magic bytes, each under one name, and the mark for no digit, which is ours. `specs/Limits.antt` has
-// the same names for the definitions, and `of_the_paper` is proved to agree with it.
+// The paper's limits and magic bytes, each under one name, and the mark for no digit, which is ours.
+// `specs/Limits.antt` has the same names for the definitions, and `of_the_paper` is proved to agree with it.
 ghost use mathlib.Core.Path.{_≡_};
 ghost use Rattle.rules.specs.Limits.{paper-limits};
 

@@ -1,5 +1,5 @@
--- The code's table of leading bytes, as a list, and what it says of each byte: one test over its 256 entries, which antt
--- computes, carried to each entry by `at-entry`. Assumes nothing.
+-- The code's table of leading bytes, as a list, and what it says of each byte: one test over its 256 entries, which
+-- antt computes, carried to each entry by `at-entry`. Assumes nothing.
 use Prim.Native.Nat.{ℕ, _<_}
 use mathlib.Core.Path.{_≡_, refl}
 use mathlib.Core.List.{List, [], _∷_}

@@ -9,7 +9,8 @@ use Rattle.rules.specs.declared.Verdict.the-variants.{Good, Bad}
 use Rattle.rules.specs.Limits.{granule, outside}
 use Rattle.rules.specs.Shadow.{leading, shadow-of, addressable, kind, judge, AllGood}
 use Rattle.rules.proofs.Lowest.{and-next}
-use Rattle.rules.proofs.Shadow.{addressable-is, not-inside, not-leading, kind-inside, kind-outside, judge-good, judge-bad}
+use Rattle.rules.proofs.Shadow.{addressable-is, not-inside, not-leading, kind-inside, kind-outside, judge-good}
+use Rattle.rules.proofs.Shadow.{judge-bad}
 
 -- every byte before b of the n bytes from a on is addressable
 pub record Walked (shadow : List ℕ) (a n b : ℕ) : Type 0 where
@@ -24,11 +25,13 @@ module _ (shadow : List ℕ) (a n : ℕ) where
   pub walked-all : (b : ℕ) → Walked shadow a n b → a + n ≤ b → judge shadow a n ≡ Good
   walked-all b w whole = judge-good shadow a n (λ j from below. w .good j from (omega arith))
 
-  walked-bad : (b : ℕ) → Walked shadow a n b → b < a + n → addressable shadow b ≡ false → judge shadow a n ≡ Bad (kind shadow b) b
+  walked-bad : (b : ℕ) → Walked shadow a n b → b < a + n → addressable shadow b ≡ false → judge shadow a n
+      ≡ Bad (kind shadow b) b
   walked-bad b w below bad =
       judge-bad shadow a n b (record { from = w .from; below = below; bad = bad; first = w .good })
 
-  pub walked-outside : (b : ℕ) → Walked shadow a n b → b < a + n → length shadow ≤ b / granule → judge shadow a n ≡ Bad outside b
+  pub walked-outside : (b : ℕ) → Walked shadow a n b → b < a + n → length shadow ≤ b / granule → judge shadow a n
+      ≡ Bad outside b
   walked-outside b w below beyond =
       walked-bad b w below (not-inside shadow b (omega arith))
       ∙ ap (λ k. Bad k b) (kind-outside shadow b (omega arith))

@@ -268,8 +268,8 @@ pub fn leading(value: u8) -> u8
     LEADING[value as usize]
 }
 
-// "The byte is read as a signed byte." A cast is defined only where the value fits, so the upper half is brought down by
-// 256 first.
+// "The byte is read as a signed byte." A cast is defined only where the value fits, so the upper half is brought down
+// by 256 first.
 pub fn signed_byte(value: u8) -> i8
     ensures { λ r. ⌜ r ≡ signed value ⌝ }
 {

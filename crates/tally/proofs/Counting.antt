@@ -11,7 +11,8 @@ use Rattle.rules.specs.Lowest.{answered}
 use Rattle.rules.specs.Hex.{number, read-field}
 use Rattle.rules.proofs.Tests.{if-true, if-false}
 use Rattle.tally.specs.declared.Tally.{Tally}
-use Rattle.tally.specs.Tally.{tally, more, counted-as, status-in, status-at, counted, further, with-answer, with-answers, with-answers-suc}
+use Rattle.tally.specs.Tally.{tally, more, counted-as, status-in, status-at, counted, further, with-answer}
+use Rattle.tally.specs.Tally.{with-answers, with-answers-suc}
 
 -- how many bytes of an answer its status takes
 abbrev pub status-end : ℕ
@@ -29,7 +30,8 @@ unfolding status-at status-in read-field
 status-said report at whole =
     if-false _ _ (le-ltb (length (drop at report)) status-end (omega (arith, length-drop at report)))
 
-module _ (t : Tally) (status : ℕ) {lines : ℕ} {answers : List ℕ} (more-is : lines ≡ more (t .lines)) (counted-is : answers ≡ counted (t .answers) status) where
+module _ (t : Tally) (status : ℕ) {lines : ℕ} {answers : List ℕ} (more-is : lines ≡ more (t .lines))
+    (counted-is : answers ≡ counted (t .answers) status) where
   pub noted-is : t .first ≡ 0 → (status ≡ 0 → ⊥) → tally lines answers lines status ≡ with-answer t status
   unfolding with-answer
   noted-is none not-done =
@@ -50,8 +52,10 @@ module _ (t : Tally) (status : ℕ) {lines : ℕ} {answers : List ℕ} (more-is 
   unfolding with-answer
   further-later some = further-to ∙ sym (if-false _ _ (ne-eqb _ _ some))
 
-pub one-further : (t : Tally) (report : List ℕ) (n : ℕ) {counted result : Tally} {status : ℕ} → counted ≡ with-answers t report n
-    → status ≡ status-at report (answer-bytes * n) → result ≡ with-answer counted status → result ≡ with-answers t report (n + 1)
+pub one-further : (t : Tally) (report : List ℕ) (n : ℕ) {counted result : Tally} {status : ℕ} → counted
+    ≡ with-answers t report n
+    → status ≡ status-at report (answer-bytes * n) → result ≡ with-answer counted status → result
+    ≡ with-answers t report (n + 1)
 one-further t report n {status = status} before here after =
     after
     ∙ ap (λ u. with-answer u status) before

@@ -1,4 +1,5 @@
--- A report counted in parts is the report counted whole, and a verdict is 0 exactly where every line was done and none is left unfinished. Assumes nothing.
+-- A report counted in parts is the report counted whole, and a verdict is 0 exactly where every line was done and none
+-- is left unfinished. Assumes nothing.
 use Prim.Native.Nat.{ℕ, zero, suc, _+_, _*_, _/_, _-_, _^_, _≤_, _<_, min}
 use native.Mathlib.Decide.{ℕ-discrete}
 use native.Mathlib.Omega.{arith}
@@ -22,9 +23,11 @@ use Rattle.rules.specs.Feed.{State, act-line, finish, hold, step, run, run-nil,
 use Rattle.rules.specs.Watcher.{watcher}
 use Rattle.rules.proofs.Tests.{by-test, if-true, if-false}
 use Rattle.rules.proofs.Frames.{length-answer}
-use Rattle.rules.proofs.Feed.{step-line-feed, step-byte, by-byte, by-first, finish-report, run-append, run-report, line-feeds}
+use Rattle.rules.proofs.Feed.{step-line-feed, step-byte, by-byte, by-first, finish-report, run-append, run-report}
+use Rattle.rules.proofs.Feed.{line-feeds}
 use Rattle.tally.specs.declared.Tally.{Tally}
-use Rattle.tally.specs.Tally.{none, more, counted-as, status-in, status-at, with-answer, with-answers, with-answers-zero, with-answers-suc, with-report, verdict}
+use Rattle.tally.specs.Tally.{none, more, counted-as, status-in, status-at, with-answer, with-answers}
+use Rattle.tally.specs.Tally.{with-answers-zero, with-answers-suc, with-report, verdict}
 use Rattle.tally.specs.Verdict.{Passed, judged}
 use Rattle.tally.proofs.Counting.{status-end, noted-is, further-done, further-later}
 
@@ -49,7 +52,8 @@ module _ (first second : List ℕ) where
   unfolding status-at
   status-second at = ap status-in (drop-append-add first second at)
 
-  answers-first : (t : Tally) (n : ℕ) → answer-bytes * n ≤ length first → with-answers t (first ++ second) n ≡ with-answers t first n
+  answers-first : (t : Tally) (n : ℕ) → answer-bytes * n ≤ length first → with-answers t (first ++ second) n
+      ≡ with-answers t first n
   answers-first t zero within = with-answers-zero t (first ++ second) ∙ sym (with-answers-zero t first)
   answers-first t (suc n) within =
       with-answers-suc t (first ++ second) n
@@ -59,12 +63,14 @@ module _ (first second : List ℕ) where
   answers-second : (t : Tally) (k : ℕ) → length first ≡ answer-bytes * k → (j : ℕ)
       → with-answers t (first ++ second) (k + j) ≡ with-answers (with-answers t first k) second j
   answers-second t k whole zero =
-      ap (with-answers t (first ++ second)) (omega arith) ∙ answers-first t k (omega arith) ∙ sym (with-answers-zero (with-answers t first k) second)
+      ap (with-answers t (first ++ second)) (omega arith) ∙ answers-first t k (omega arith)
+      ∙ sym (with-answers-zero (with-answers t first k) second)
   answers-second t k whole (suc j) =
       let place : answer-bytes * (k + j) ≡ length first + answer-bytes * j = omega arith in
       ap (with-answers t (first ++ second)) (omega arith)
       ∙ with-answers-suc t (first ++ second) (k + j)
-      ∙ ap₂ with-answer (answers-second t k whole j) (ap (status-at (first ++ second)) place ∙ status-second (answer-bytes * j))
+      ∙ ap₂ with-answer (answers-second t k whole j)
+      (ap (status-at (first ++ second)) place ∙ status-second (answer-bytes * j))
       ∙ sym (with-answers-suc (with-answers t first k) second j)
 
 -- a report counted in two parts, of which the first ends with an answer, is counted whole
@@ -73,7 +79,8 @@ pub with-report-append : (t : Tally) (first second : List ℕ) (k : ℕ) → len
 unfolding with-report
 with-report-append t first second k whole =
     let count : length first / answer-bytes ≡ k = omega arith in
-    let all : length (first ++ second) / answer-bytes ≡ k + length second / answer-bytes = omega (arith, length-append first second) in
+    let all : length (first ++ second) / answer-bytes ≡ k + length second / answer-bytes =
+    omega (arith, length-append first second) in
     ap (λ n. with-answers (with-answers t first n) second (length second / answer-bytes)) count
     ∙ sym (answers-second first second t k whole (length second / answer-bytes))
     ∙ ap (with-answers t (first ++ second)) (sym all)
@@ -98,7 +105,12 @@ module _ (t : Tally) (number : ℕ) where
         | yes clear ↦
             elim (ℕ-discrete number 0) [
               | yes done ↦ (clear, done)
-              | no not-done ↦ absurd (omega (arith, more-some (t .lines), ap (λ u. u .first) (noted-is t number refl refl clear not-done)))
+              | no not-done ↦ absurd (omega (
+                arith,
+                more-some (t .lines),
+                ap (λ u. u .first)
+                    (noted-is t number refl refl clear not-done),
+              ))
             ]
         | no some ↦ absurd (some (ap (λ u. u .first) (further-later t number refl refl some) ∙ e))
       ]
@@ -116,7 +128,8 @@ report-zero t report = answers-zero t report (length report / answer-bytes)
 
 -- an answer's number is read back from its line; 10 where it is none of 00 to 09
 number-read : (a : Answer) → status-at (answer-line a) 0 ≡ min (status a) 10
-unfolding status-at status-in counted-as read-field number number-on hex-digit answer-line written digits digit status in-numbers
+unfolding status-at status-in counted-as read-field number number-on hex-digit answer-line written digits digit status
+    in-numbers
 number-read (Done value) = refl
 number-read BadLine = refl
 number-read BadKind = refl
@@ -128,7 +141,8 @@ number-read Released = refl
 number-read (NotGood kind first) = refl
 
 -- a line feed's report is one answer
-tally-feed : (t : Tally) (st : State Pool) → with-report t (step watcher st line-feed .report) ≡ with-answer t (min (status (act-line watcher st .answer)) 10)
+tally-feed : (t : Tally) (st : State Pool) → with-report t (step watcher st line-feed .report)
+    ≡ with-answer t (min (status (act-line watcher st .answer)) 10)
 unfolding finish with-report
 tally-feed t st =
     let a : Answer = act-line watcher st .answer in
@@ -145,17 +159,23 @@ tally-none t = with-answers-zero t []
 
 step-whole : (st : State Pool) (b : ℕ) → (k : ℕ) × (length (step watcher st b .report) ≡ answer-bytes * k)
 unfolding hold
-step-whole st b = by-byte watcher st b (λ r. (k : ℕ) × (length (r .report) ≡ answer-bytes * k)) (λ feed. (1, finish-report watcher st)) (λ other. (0, refl))
+step-whole st b =
+    by-byte watcher st b (λ r. (k : ℕ) × (length (r .report) ≡ answer-bytes * k))
+    (λ feed. (1, finish-report watcher st)) (λ other. (0, refl))
 
 module _ (t : Tally) (st : State Pool) where
   tally-cons : (b : ℕ) (text : List ℕ)
-      → with-report t (run watcher st (b ∷ text) .report) ≡ with-report (with-report t (step watcher st b .report)) (run watcher (step watcher st b .state) text .report)
+      → with-report t (run watcher st (b ∷ text) .report)
+      ≡ with-report (with-report t (step watcher st b .report)) (run watcher (step watcher st b .state) text .report)
   tally-cons b text =
       let whole = step-whole st b in
-      ap (λ r. with-report t (r .report)) (run-cons watcher st b text) ∙ sym (with-report-append t (step watcher st b .report) _ (whole .0) (whole .1))
+      ap (λ r. with-report t (r .report)) (run-cons watcher st b text)
+      ∙ sym (with-report-append t (step watcher st b .report) _ (whole .0) (whole .1))
 
   tally-append : (text more : List ℕ)
-      → with-report t (run watcher st (text ++ more) .report) ≡ with-report (with-report t (run watcher st text .report)) (run watcher (run watcher st text .state) more .report)
+      → with-report t (run watcher st (text ++ more) .report)
+      ≡ with-report (with-report t (run watcher st text .report))
+      (run watcher (run watcher st text .state) more .report)
   tally-append text more =
       ap (λ r. with-report t (r .report)) (run-append watcher st text more)
       ∙ sym (with-report-append t (run watcher st text .report) _ (line-feeds text) (run-report watcher st text))
@@ -164,32 +184,45 @@ module _ (t : Tally) (st : State Pool) where
 
 -- `Passed .each`, by itself
 abbrev EachDone : State Pool → List ℕ → Type 0
-EachDone st text = (before rest : List ℕ) → text ≡ before ++ (line-feed ∷ rest) → status (act-line watcher (run watcher st before .state) .answer) ≡ 0
+EachDone st text =
+    (before rest : List ℕ) → text ≡ before ++ (line-feed ∷ rest)
+    → status (act-line watcher (run watcher st before .state) .answer) ≡ 0
 
-each-done : (t : Tally) (st : State Pool) (text : List ℕ) → with-report t (run watcher st text .report) .first ≡ 0 → EachDone st text
+each-done : (t : Tally) (st : State Pool) (text : List ℕ) → with-report t (run watcher st text .report) .first ≡ 0
+    → EachDone st text
 each-done t st text e before rest cut =
     let there : State Pool = run watcher st before .state in
-    let whole : with-report t (run watcher st text .report) ≡ with-report (with-report (with-report t (run watcher st before .report)) (step watcher there line-feed .report)) (run watcher (step watcher there line-feed .state) rest .report) =
-    ap (λ l. with-report t (run watcher st l .report)) cut ∙ tally-append t st before (line-feed ∷ rest) ∙ tally-cons _ there line-feed rest in
+    let whole : with-report t (run watcher st text .report)
+    ≡ with-report (with-report (with-report t (run watcher st before .report)) (step watcher there line-feed .report))
+    (run watcher (step watcher there line-feed .state) rest .report) =
+    ap (λ l. with-report t (run watcher st l .report)) cut ∙ tally-append t st before (line-feed ∷ rest)
+    ∙ tally-cons _ there line-feed rest in
     let upto = report-zero _ _ (ap (λ u. u .first) (sym whole) ∙ e) in
-    let read : min (status (act-line watcher there .answer)) 10 ≡ 0 = answer-zero _ _ (ap (λ u. u .first) (sym (tally-feed _ there)) ∙ upto) .1 in
+    let read : min (status (act-line watcher there .answer)) 10 ≡ 0 =
+    answer-zero _ _ (ap (λ u. u .first) (sym (tally-feed _ there)) ∙ upto) .1 in
     omega arith
 
-first-byte : (t : Tally) (st : State Pool) (b : ℕ) (text : List ℕ) → t .first ≡ 0 → EachDone st (b ∷ text) → with-report t (step watcher st b .report) .first ≡ 0
+first-byte : (t : Tally) (st : State Pool) (b : ℕ) (text : List ℕ) → t .first ≡ 0 → EachDone st (b ∷ text)
+    → with-report t (step watcher st b .report) .first ≡ 0
 unfolding hold run
 first-byte t st b text clear =
     by-first b (λ c. EachDone st (c ∷ text) → with-report t (step watcher st c .report) .first ≡ 0)
     (λ each.
     let done : status (act-line watcher st .answer) ≡ 0 = each [] text refl in
     ap (λ u. u .first) (tally-feed t st) ∙ answer-done t _ clear (omega arith))
-    (λ other each. ap (λ u. u .first) (ap (λ r. with-report t (r .report)) (step-byte watcher st b other) ∙ tally-none t) ∙ clear)
+    (λ other each. ap (λ u. u .first)
+    (ap (λ r. with-report t (r .report)) (step-byte watcher st b other) ∙ tally-none t) ∙ clear)
 
-none-noted : (t : Tally) (st : State Pool) (text : List ℕ) → t .first ≡ 0 → EachDone st text → with-report t (run watcher st text .report) .first ≡ 0
-none-noted t st [] clear each = ap (λ u. u .first) (ap (λ r. with-report t (r .report)) (run-nil watcher st) ∙ tally-none t) ∙ clear
+none-noted : (t : Tally) (st : State Pool) (text : List ℕ) → t .first ≡ 0 → EachDone st text
+    → with-report t (run watcher st text .report) .first ≡ 0
+none-noted t st [] clear each =
+    ap (λ u. u .first) (ap (λ r. with-report t (r .report)) (run-nil watcher st) ∙ tally-none t) ∙ clear
 none-noted t st (b ∷ text) clear each =
     ap (λ u. u .first) (tally-cons t st b text)
-    ∙ none-noted (with-report t (step watcher st b .report)) (step watcher st b .state) text (first-byte t st b text clear each)
-    (λ before rest cut. ap (λ r. status (act-line watcher (r .state) .answer)) (sym (run-cons watcher st b before)) ∙ each (b ∷ before) rest (ap (λ l. b ∷ l) cut))
+    ∙ none-noted (with-report t (step watcher st b .report)) (step watcher st b .state) text
+    (first-byte t st b text clear each)
+    (λ before rest cut. ap (λ r. status (act-line watcher (r .state) .answer)) (sym (run-cons watcher st b before))
+    ∙ each (b ∷ before) rest (ap (λ l. b ∷ l) cut))
 
 -- ---- the verdict
 
@@ -201,13 +234,16 @@ by-verdict t unfinished P all some =
     elim (ℕ-discrete (t .first) 0) [
       | yes clear ↦
           elim (ℕ-discrete unfinished 0) [
-            | yes finished ↦ subst P (sym (if-true _ _ (eq-eqb _ _ clear) ∙ if-true _ _ (eq-eqb _ _ finished))) (all clear finished)
-            | no left ↦ subst P (sym (if-true _ _ (eq-eqb _ _ clear) ∙ if-false _ _ (ne-eqb _ _ left))) (some (λ clear. left))
+            | yes finished ↦ subst P (sym (if-true _ _ (eq-eqb _ _ clear) ∙ if-true _ _ (eq-eqb _ _ finished)))
+                (all clear finished)
+            | no left ↦ subst P (sym (if-true _ _ (eq-eqb _ _ clear) ∙ if-false _ _ (ne-eqb _ _ left)))
+                (some (λ clear. left))
           ]
       | no noted ↦ subst P (sym (if-false _ _ (ne-eqb _ _ noted))) (some (λ clear finished. noted clear))
     ]
 
-by-judged {ℓ} : (st : State Pool) (text : List ℕ) (P : ℕ → Type ℓ) → (Passed st text → P 0) → ((Passed st text → ⊥) → P 1) → P (judged st text)
+by-judged {ℓ} : (st : State Pool) (text : List ℕ) (P : ℕ → Type ℓ) → (Passed st text → P 0)
+    → ((Passed st text → ⊥) → P 1) → P (judged st text)
 unfolding judged
 by-judged st text P all some =
     by-verdict _ _ P

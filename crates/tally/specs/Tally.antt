@@ -54,7 +54,10 @@ noted t status = tally (more (t .lines)) (counted (t .answers) status) (more (t 
 
 unfoldable pub with-answer : Tally → ℕ → Tally
 with-answer t status =
-    elim (eqb (t .first) 0) [ true ↦ elim (eqb status 0) [ true ↦ further t status | false ↦ noted t status ] | false ↦ further t status ]
+    elim (eqb (t .first) 0) [
+      | true ↦ elim (eqb status 0) [ true ↦ further t status | false ↦ noted t status ]
+      | false ↦ further t status
+    ]
 
 -- with the first n answers of a report
 unfoldable pub with-answers : Tally → List ℕ → ℕ → Tally
@@ -65,7 +68,8 @@ pub with-answers-zero : (t : Tally) (report : List ℕ) → with-answers t repor
 unfolding with-answers
 with-answers-zero t report = refl
 
-pub with-answers-suc : (t : Tally) (report : List ℕ) (n : ℕ) → with-answers t report (suc n) ≡ with-answer (with-answers t report n) (status-at report (answer-bytes * n))
+pub with-answers-suc : (t : Tally) (report : List ℕ) (n : ℕ) → with-answers t report (suc n)
+    ≡ with-answer (with-answers t report n) (status-at report (answer-bytes * n))
 unfolding with-answers
 with-answers-suc t report n = refl
 

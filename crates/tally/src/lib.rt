@@ -3,7 +3,8 @@ use rules::Found;
 use rules::limits::ANSWER_BYTES;
 use rules::limits::ANSWER_STATUS_END;
 ghost use mathlib.Core.Path.{_≡_};
-ghost use Rattle.tally.specs.Tally.{none, more, counted-as, status-at, counted, with-answer, with-report, verdict};
+ghost use Rattle.tally.specs.Tally.{none, more, counted-as, status-at, counted, with-answer, with-report};
+ghost use Rattle.tally.specs.Tally.{verdict};
 
 pub struct Tally {
     pub lines: u64,

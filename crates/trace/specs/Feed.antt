@@ -24,4 +24,5 @@ fed given shadow table room = record { given = given; pool = pool-of shadow tabl
 
 -- `run` over the bytes taken
 abbrev pub fed-of : State Pool → List ℕ → List ℕ → FedWith Pool
-fed-of st piece room = fed-with (run watcher st (take (taken piece (length room)) piece)) (taken piece (length room)) room
+fed-of st piece room =
+    fed-with (run watcher st (take (taken piece (length room)) piece)) (taken piece (length room)) room

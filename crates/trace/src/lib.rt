@@ -35,7 +35,8 @@ pub fn feed(
 ) -> Fed
     requires { ⌜ Lent session (now shadow) (now table) ⌝ }
     ensures { λ r. ⌜ fed r (now (shadow .exit)) (now (table .exit)) (now (room .exit))
-        ≡ fed-of (state-of session (now (shadow .entry)) (now (table .entry))) (now (piece .entry)) (now (room .entry)) ⌝ }
+        ≡ fed-of (state-of session (now (shadow .entry)) (now (table .entry)))
+        (now (piece .entry)) (now (room .entry)) ⌝ }
 {
     let done = Answer::Done { value: 0 };
     let status = answers::call_status_of(CallAnswer::Answered(done));

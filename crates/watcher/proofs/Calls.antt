@@ -36,7 +36,8 @@ module _ {session : Session} {shadow table : List ℕ} {n : ℕ} {r : CallAnswer
     table = ap (λ a. a .table) e;
   }
 
-module _ {session : Session} {shadow table piece room : List ℕ} {r : Fed} {shadow-after table-after room-after : List ℕ} where
+module _ {session : Session} {shadow table piece room : List ℕ} {r : Fed}
+    {shadow-after table-after room-after : List ℕ} where
   pub feed-call-is : fed r shadow-after table-after room-after ≡ feed session shadow table piece room
       → FeedCall session shadow table piece room r shadow-after table-after room-after
   feed-call-is e = record {

@@ -35,7 +35,8 @@ module _ {session : Session} {one two : CallAnswer} where
   pub unfinished-call-only : UnfinishedCall session one → UnfinishedCall session two → one ≡ two
   unfinished-call-only a b = a .answer ∙ sym (b .answer)
 
-module _ {session : Session} {shadow table piece room : List ℕ} {one two : Fed} {shadow-one table-one room-one shadow-two table-two room-two : List ℕ} where
+module _ {session : Session} {shadow table piece room : List ℕ} {one two : Fed}
+    {shadow-one table-one room-one shadow-two table-two room-two : List ℕ} where
   pub feed-call-only : FeedCall session shadow table piece room one shadow-one table-one room-one
       → FeedCall session shadow table piece room two shadow-two table-two room-two
       → (one ≡ two) × (shadow-one ≡ shadow-two) × (table-one ≡ table-two) × (room-one ≡ room-two)

@@ -1,5 +1,5 @@
--- What a refusal leaves: none of 01 to 24 changes shadow or table, 21 to 24 take no byte and write none, and a refused call changes no
--- session. Each is read off a call's statement, so it is about the code. Assumes nothing.
+-- What a refusal leaves: none of 01 to 24 changes shadow or table, 21 to 24 take no byte and write none, and a refused
+-- call changes no session. Each is read off a call's statement, so it is about the code. Assumes nothing.
 use Prim.Native.Nat.{ℕ, suc, _-_, _≤_}
 use native.Mathlib.Omega.{arith}
 use mathlib.Core.Path.{_≡_, refl, sym, ap, subst, _∙_}
@@ -16,13 +16,15 @@ use Rattle.rules.specs.declared.Fed.{Fed}
 use Rattle.rules.specs.Limits.{too-long, line-feed, answer-bytes}
 use Rattle.rules.specs.Answers.{status, in-numbers, call-status, call-in-numbers}
 use Rattle.rules.specs.Release.{Pool}
-use Rattle.rules.specs.Feed.{State, act-line, finish, run, run-nil, run-cons, taken, taken-nil, taken-answered, taken-stops}
+use Rattle.rules.specs.Feed.{State, act-line, finish, run, run-nil, run-cons, taken, taken-nil, taken-answered}
+use Rattle.rules.specs.Feed.{taken-stops}
 use Rattle.rules.specs.Watcher.{state-of, watcher, pool-of}
 use Rattle.rules.specs.Calls.{closed, open-with, fits-lent, within-limits, grant-call, release-call}
 use Rattle.rules.proofs.Tests.{by-test, by-order}
 use Rattle.rules.proofs.Feed.{step-line-feed}
 use Rattle.rules.proofs.Watcher.{finish-refused}
-use Rattle.rules.proofs.Calls.{open-refused, within-true, grant-call-refused, release-call-refused, unfinished-24, unfinished-done, feed-24, feed-done}
+use Rattle.rules.proofs.Calls.{open-refused, within-true, grant-call-refused, release-call-refused, unfinished-24}
+use Rattle.rules.proofs.Calls.{unfinished-done, feed-24, feed-done}
 use Rattle.watcher.specs.Calls.{OpenCall, GrantCall, ReleaseCall, UnfinishedCall, FeedCall}
 
 done-is : {m n : ℕ} → Path CallAnswer (Answered (Done m)) (Answered (Done n)) → m ≡ n
@@ -36,7 +38,8 @@ module _ {shadow table : List ℕ} {R Q : ℕ} {r : Opened} {shadow-after table-
   pub open-refused-keeps : OpenCall shadow table R Q r shadow-after table-after → r .status ≢ 0
       → (r .session ≡ closed) × (shadow-after ≡ shadow) × (table-after ≡ table)
   open-refused-keeps o refused =
-      let kept : (open-with shadow table R Q .given .session ≡ closed) × (open-with shadow table R Q .shadow ≡ shadow) × (open-with shadow table R Q .table ≡ table) =
+      let kept : (open-with shadow table R Q .given .session ≡ closed) × (open-with shadow table R Q .shadow ≡ shadow)
+      × (open-with shadow table R Q .table ≡ table) =
       open-refused shadow table R Q (λ e. refused (ap (λ q. q .status) (o .given) ∙ e)) in
       (ap (λ q. q .session) (o .given) ∙ kept .0, o .shadow ∙ kept .1, o .table ∙ kept .2)
 
@@ -45,14 +48,16 @@ module _ {session : Session} {shadow table : List ℕ} {n : ℕ} {r : CallAnswer
   pub grant-refused-keeps : GrantCall session shadow table n r shadow-after table-after → call-status r ≢ 0
       → (shadow-after ≡ shadow) × (table-after ≡ table)
   grant-refused-keeps g refused =
-      let kept : (grant-call session shadow table n .shadow ≡ shadow) × (grant-call session shadow table n .table ≡ table) =
+      let kept : (grant-call session shadow table n .shadow ≡ shadow)
+      × (grant-call session shadow table n .table ≡ table) =
       grant-call-refused session shadow table n (λ e. refused (ap call-status (g .answer) ∙ e)) in
       (g .shadow ∙ kept .0, g .table ∙ kept .1)
 
   pub release-refused-keeps : ReleaseCall session shadow table n r shadow-after table-after → call-status r ≢ 0
       → (shadow-after ≡ shadow) × (table-after ≡ table)
   release-refused-keeps g refused =
-      let kept : (release-call session shadow table n .shadow ≡ shadow) × (release-call session shadow table n .table ≡ table) =
+      let kept : (release-call session shadow table n .shadow ≡ shadow)
+      × (release-call session shadow table n .table ≡ table) =
       release-call-refused session shadow table n (λ e. refused (ap call-status (g .answer) ∙ e)) in
       (g .shadow ∙ kept .0, g .table ∙ kept .1)
 
@@ -67,7 +72,8 @@ module _ {session : Session} {n : ℕ} where
       (λ not. absurd (done-not (asks .answer ∙ unfinished-24 session not)))
 
 -- 24 gives the session back, takes no byte and writes none
-module _ {session : Session} {shadow table piece room : List ℕ} {r : Fed} {shadow-after table-after room-after : List ℕ} where
+module _ {session : Session} {shadow table piece room : List ℕ} {r : Fed}
+    {shadow-after table-after room-after : List ℕ} where
   pub feed-refused-keeps : FeedCall session shadow table piece room r shadow-after table-after room-after
       → r .status ≢ 0
       → (r ≡ record { session = session; status = 24; taken = 0; wrote = 0 })
@@ -77,7 +83,8 @@ module _ {session : Session} {shadow table piece room : List ℕ} {r : Fed} {sha
   unfolding call-status call-in-numbers in-numbers
   feed-refused-keeps f refused =
       by-test (fits-lent session shadow table)
-      (λ fits. absurd (refused (ap (λ q. q .status) (f .given) ∙ ap (λ q. q .given .status) (feed-done watcher session (pool-of shadow table) piece room fits))))
+      (λ fits. absurd (refused (ap (λ q. q .status) (f .given)
+      ∙ ap (λ q. q .given .status) (feed-done watcher session (pool-of shadow table) piece room fits))))
       (λ not.
       let e = feed-24 watcher session (pool-of shadow table) piece room not in (
         f .given ∙ ap (λ q. q .given) e,
@@ -87,14 +94,17 @@ module _ {session : Session} {shadow table piece room : List ℕ} {r : Fed} {sha
       ))
 
 -- a line feed alone, with room for its answer or without
-line-ran : (st : State Pool) (room : ℕ) → (P : State Pool → Type 0) → P st → P (finish watcher st .state) → P (run watcher st (take (taken (line-feed ∷ []) room) (line-feed ∷ [])) .state)
+line-ran : (st : State Pool) (room : ℕ) → (P : State Pool → Type 0) → P st → P (finish watcher st .state)
+    → P (run watcher st (take (taken (line-feed ∷ []) room) (line-feed ∷ [])) .state)
 line-ran st room P stays acts =
     by-order room answer-bytes
     (λ full.
-    subst (λ n. P (run watcher st (take n (line-feed ∷ [])) .state)) (sym (taken-stops [] room (lt-ltb room answer-bytes full)))
+    subst (λ n. P (run watcher st (take n (line-feed ∷ [])) .state))
+    (sym (taken-stops [] room (lt-ltb room answer-bytes full)))
     (subst (λ r. P (r .state)) (sym (run-nil watcher st)) stays))
     (λ enough.
-    let one : taken (line-feed ∷ []) room ≡ 1 = taken-answered [] room (le-ltb room answer-bytes enough) ∙ ap suc (taken-nil (room - answer-bytes)) in
+    let one : taken (line-feed ∷ []) room ≡ 1 =
+    taken-answered [] room (le-ltb room answer-bytes enough) ∙ ap suc (taken-nil (room - answer-bytes)) in
     let ran : run watcher st (line-feed ∷ []) .state ≡ finish watcher st .state =
     ap (λ r. r .state) (run-cons watcher st line-feed [])
     ∙ ap (λ r. run watcher (r .state) [] .state) (step-line-feed watcher st)
@@ -104,7 +114,8 @@ line-ran st room P stays acts =
 -- 01 to 09: a line feed that ends a refused line changes neither shadow nor table
 module _ {session : Session} {shadow table room : List ℕ} {r : Fed} {shadow-after table-after room-after : List ℕ} where
   pub line-refused-keeps : FeedCall session shadow table (line-feed ∷ []) room r shadow-after table-after room-after
-      → status (act-line watcher (state-of session shadow table) .answer) ≢ 0 → (shadow-after ≡ shadow) × (table-after ≡ table)
+      → status (act-line watcher (state-of session shadow table) .answer) ≢ 0 → (shadow-after ≡ shadow)
+      × (table-after ≡ table)
   line-refused-keeps f refused =
       let st : State Pool = state-of session shadow table in
       let Keeps : State Pool → Type 0 = λ s. (s .pool .shadow ≡ shadow) × (s .pool .table ≡ table) in

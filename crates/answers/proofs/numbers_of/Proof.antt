@@ -1,5 +1,5 @@
--- `answers::numbers_of` meets its contract: in each arm the answer is the arm's own, at which the table computes. Assumes
--- nothing.
+-- `answers::numbers_of` meets its contract: in each arm the answer is the arm's own, at which the table computes.
+-- Assumes nothing.
 use mathlib.Core.Path.{sym, ap, _∙_}
 use borrow.Author.Needs.{needs}
 use Rattle.rules.specs.Answers.{in-numbers}

@@ -1,5 +1,5 @@
--- `answers::put_answer` meets its contract: status, kind and value are written one behind the other, each over as many bytes
--- as its digits, and the line feed over the last byte. Assumes nothing.
+-- `answers::put_answer` meets its contract: status, kind and value are written one behind the other, each over as many
+-- bytes as its digits, and the line feed over the last byte. Assumes nothing.
 use Prim.Native.Nat.{ℕ}
 use mathlib.Core.Path.{_≡_, sym, ap, ap₂, _∙_}
 use mathlib.Core.List.{List}
@@ -98,7 +98,8 @@ returns c =
 
 same-length : tie.Need-same-length
 same-length c =
-    let numbers = c .before .before .before .before .before .before .before .before .before .before .before .before .before .before in
+    let numbers =
+    c .before .before .before .before .before .before .before .before .before .before .before .before .before .before in
     ap length (returns c) ∙ length-answer _ ∙ sym (numbers .before .before .pre)
 
 pub put-answer-spec : {M : Type 1} → statement M

@@ -50,7 +50,8 @@ returns c =
     let table = now (start .args .table) in
     let row = start .args .row in
     let painted-over =
-    painted .row .ensures ∙ ap₂ (λ from size. fill shadow from (granules size) redzone-byte) (started .number .ensures) (sized .number2 .ensures) in
+    painted .row .ensures ∙ ap₂ (λ from size. fill shadow from (granules size) redzone-byte) (started .number .ensures)
+    (sized .number2 .ensures) in
     let emptied = put .put-row .ensures ∙ ap (put-row table row) (zeroed .zero-row .ensures) in
     let as-many = rows-same (put .put-row .last .0) table (put .put-row .kept .0) in
     let turns = less .lessen .ensures .table ∙ ap₂ lessened emptied as-many in

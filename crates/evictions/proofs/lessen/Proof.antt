@@ -1,5 +1,5 @@
--- `evictions::lessen` meets its contract. The invariant: the turns of the rows before `row` are lessened, and `oldest` is the
--- oldest of them. The measure is what is left of the rows. Assumes nothing.
+-- `evictions::lessen` meets its contract. The invariant: the turns of the rows before `row` are lessened, and `oldest`
+-- is the oldest of them. The measure is what is left of the rows. Assumes nothing.
 use Prim.Native.Nat.{ℕ, suc, _+_, _-_, _/_, _≤_, _<_}
 use native.Mathlib.Nat.{le-refl}
 use native.Mathlib.Numerals.{add-one}
@@ -33,7 +33,8 @@ loop-holds c = (omega arith, sym (lessened-zero (now (c .before .args .table))),
 as-long : (c : tie.At-loop Inv-loop μ-loop) → length (c .loop .table) ≡ length (now (c .before .before .args .table))
 as-long c = ap length (c .loop .inv .1) ∙ length-lessened (now (c .before .before .args .table)) (c .loop .row)
 
-in-rows : (c : tie.In-loop Inv-loop μ-loop) → c .before .loop .row < table.rows (now (c .before .before .before .args .table))
+in-rows : (c : tie.In-loop Inv-loop μ-loop) → c .before .loop .row
+    < table.rows (now (c .before .before .before .args .table))
 unfolding table.rows
 in-rows c = c .loop-test .taken
 
@@ -41,7 +42,8 @@ number-requires : tie.Need-number-requires Inv-loop μ-loop
 number-requires c κs =
     let loop = c .before .before in
     record {
-      below = below-same (now (loop .before .before .args .table)) (loop .loop .table) (loop .loop .row) (as-long loop) (in-rows (c .before));
+      below = below-same (now (loop .before .before .args .table)) (loop .loop .table) (loop .loop .row) (as-long loop)
+          (in-rows (c .before));
       in-row = omega arith;
     }
 
@@ -53,7 +55,8 @@ set-number-requires c κs =
     let test = c .before .before .before .before in
     let loop = test .before in
     record {
-      below = below-same (now (loop .before .before .args .table)) (loop .loop .table) (loop .loop .row) (as-long loop) (in-rows test);
+      below = below-same (now (loop .before .before .args .table)) (loop .loop .table) (loop .loop .row) (as-long loop)
+          (in-rows test);
       in-row = omega arith;
     }
 
@@ -64,7 +67,8 @@ head c = c .before .before .before .before .before .before
 abbrev table₀ : tie.After-set-number Inv-loop μ-loop → List ℕ
 table₀ c = now (head c .before .before .args .table)
 
-stored : (c : tie.After-set-number Inv-loop μ-loop) → c .set-number .last .0 ≡ lessened (table₀ c) (suc (head c .loop .row))
+stored : (c : tie.After-set-number Inv-loop μ-loop) → c .set-number .last .0
+    ≡ lessened (table₀ c) (suc (head c .loop .row))
 stored c =
     let turned = c .before .before in
     let loop = head c .loop in
@@ -72,7 +76,8 @@ stored c =
     let as-turn : turned .lessened-turn .result ≡ turn (table₀ c) row - 1 =
     turned .lessened-turn .ensures
     ∙ ap (λ t. t - 1)
-    (turned .before .number .ensures ∙ ap (λ t. turn t row) (loop .inv .1) ∙ turn-kept (table₀ c) row row (le-refl row)) in
+    (turned .before .number .ensures ∙ ap (λ t. turn t row) (loop .inv .1)
+    ∙ turn-kept (table₀ c) row row (le-refl row)) in
     c .set-number .ensures
     ∙ ap₂ (λ t v. set-number turn-column t row v) (loop .inv .1) as-turn
     ∙ sym (lessened-suc (table₀ c) row)
@@ -85,7 +90,8 @@ oldest-with-requires c κs =
     let before = table₀ set in
     let row = loop .loop .row in
     record {
-      below = below-same before (set .set-number .last .0) row (ap length (stored set) ∙ length-lessened before (suc row)) (in-rows test);
+      below = below-same before (set .set-number .last .0) row
+          (ap length (stored set) ∙ length-lessened before (suc row)) (in-rows test);
       before =
           loop .loop .inv .2
           ∙ ap (λ t. answered (release.oldest t row)) (loop .loop .inv .1)
@@ -101,8 +107,11 @@ loop-less c = omega arith
 
 loop-again : tie.Need-loop-again Inv-loop μ-loop
 loop-again c =
-    let set = c .before .before .before .before in
-    (omega arith, stored set ∙ ap (lessened (table₀ set)) (sym (add-one (head set .loop .row))), c .oldest-with .ensures)
+    let set = c .before .before .before .before in (
+      omega arith,
+      stored set ∙ ap (lessened (table₀ set)) (sym (add-one (head set .loop .row))),
+      c .oldest-with .ensures,
+    )
 
 same-length : tie.Need-same-length Inv-loop μ-loop
 same-length c = as-long (c .before)
@@ -117,7 +126,8 @@ returns c =
       table = loop .loop .inv .1 ∙ ap (lessened before) all;
       oldest-next =
           loop .loop .inv .2
-          ∙ ap (λ n. answered (release.oldest (loop .loop .table) n)) (all ∙ sym (rows-same (loop .loop .table) before (as-long loop)));
+          ∙ ap (λ n. answered (release.oldest (loop .loop .table) n))
+          (all ∙ sym (rows-same (loop .loop .table) before (as-long loop)));
     }
 
 pub lessen-spec : {M : Type 1} → statement M

@@ -1,5 +1,6 @@
--- `evictions::settle` meets its contract. The invariant is `Settling`: the weights and the row to evict next are known, and
--- what is left to do is what was to do, less what is done. The measure is the number of quarantined rows. Assumes nothing.
+-- `evictions::settle` meets its contract. The invariant is `Settling`: the weights and the row to evict next are known,
+-- and what is left to do is what was to do, less what is done. The measure is the number of quarantined rows. Assumes
+-- nothing.
 use Prim.Native.Nat.{_+_, _-_}
 use native.Mathlib.Omega.{arith}
 use mathlib.Core.Path.{_≡_, sym, ap, subst, _∙_}
@@ -10,7 +11,8 @@ use Rattle.rules.specs.Release.{in-quarantine, weight, Pool}
 use Rattle.rules.proofs.Release.{Oldest}
 use Rattle.evictions.specs.Evictions.{pool}
 use Rattle.blocks.proofs.Survey.{rows-most}
-use Rattle.evictions.proofs.Settling.{Settling, settling-start, settling-done, settling-never, settling-count, settling-row, settling-weight, settling-less, settling-next}
+use Rattle.evictions.proofs.Settling.{Settling, settling-start, settling-done, settling-never, settling-count}
+use Rattle.evictions.proofs.Settling.{settling-row, settling-weight, settling-less, settling-next}
 use Rattle.evictions.proofs.settle.Statement.{statement}
 use Rattle.evictions.proofs.settle.Tie as tie
 
@@ -19,7 +21,8 @@ Inv-loop shadow₀ table₀ redzone quarantine weight₀ oldest₀ evicted₀ li
     Settling redzone limit (pool shadow₀ table₀) (pool shadow table) weight oldest evicted
 
 abbrev μ-loop : tie.MeasureT-loop
-μ-loop shadow₀ table₀ redzone quarantine weight₀ oldest₀ evicted₀ limit shadow table weight oldest evicted = in-quarantine table
+μ-loop shadow₀ table₀ redzone quarantine weight₀ oldest₀ evicted₀ limit shadow table weight oldest evicted =
+    in-quarantine table
 
 -- where the function starts, and the pool there
 abbrev Start : tie.At-loop Inv-loop μ-loop → tie.Start Inv-loop μ-loop
@@ -52,7 +55,9 @@ returns c =
     absurd (settling-never (test .before .loop .inv) (test .loop-test .taken) (c .enum-told .given .1))
 
 -- the row to evict is the oldest
-row-is : (c : tie.After-oldest Inv-loop μ-loop) → Oldest (c .before .before .before .loop .table) (rows (c .before .before .before .loop .table)) (c .oldest .given .0 .0)
+row-is : (c : tie.After-oldest Inv-loop μ-loop)
+    → Oldest (c .before .before .before .loop .table) (rows (c .before .before .before .loop .table))
+    (c .oldest .given .0 .0)
 row-is c =
     let test = c .before .before in
     settling-row (test .before .loop .inv) (test .loop-test .taken) (c .oldest .given .0 .0) (c .oldest .given .1)
@@ -71,7 +76,8 @@ abbrev head : tie.After-weight-of Inv-loop μ-loop → tie.At-loop Inv-loop μ-l
 head c = found c .before .before .before
 
 own-weight : (c : tie.After-weight-of Inv-loop μ-loop)
-    → c .weight-of .result ≡ weight (Start (head c) .args .redzone) (size (head c .loop .table) (found c .oldest .given .0 .0))
+    → c .weight-of .result ≡ weight (Start (head c) .args .redzone)
+    (size (head c .loop .table) (found c .oldest .given .0 .0))
 own-weight c = c .weight-of .ensures ∙ ap (weight (Start (head c) .args .redzone)) (c .before .number .ensures)
 
 sub-weight : tie.Need-sub-weight Inv-loop μ-loop
@@ -79,7 +85,8 @@ sub-weight c =
     omega (
       arith,
       own-weight c,
-      settling-weight (head c .loop .inv) (found c .before .before .loop-test .taken) (found c .oldest .given .0 .0) (found c .oldest .given .1),
+      settling-weight (head c .loop .inv) (found c .before .before .loop-test .taken) (found c .oldest .given .0 .0)
+          (found c .oldest .given .1),
     )
 
 evict-requires : tie.Need-evict-requires Inv-loop μ-loop
@@ -114,9 +121,11 @@ loop-again c =
     let start = Start (head weighed) in
     let after = pool (evicted .evict .last .0) (evicted .evict .last .1 .0) in
     let next =
-    settling-next (loop .inv) (found weighed .before .before .loop-test .taken) (row .0 .0) (row .1) after (evicted .evict .result) (evicted .evict .ensures) in
+    settling-next (loop .inv) (found weighed .before .before .loop-test .taken) (row .0 .0) (row .1) after
+    (evicted .evict .result) (evicted .evict .ensures) in
     subst
-    (λ w. Settling (start .args .redzone) (start .args .quarantine) (before (head weighed)) after (loop .weight - w) (evicted .evict .result) (loop .evicted + 1))
+    (λ w. Settling (start .args .redzone) (start .args .quarantine) (before (head weighed)) after (loop .weight - w)
+    (evicted .evict .result) (loop .evicted + 1))
     (sym (own-weight weighed)) next
 
 same-length-3 : tie.Need-same-length-3 Inv-loop μ-loop

@@ -1,5 +1,5 @@
--- `hex::number` meets its contract. The loop's invariant: what the digits say is what those from `i` on say, read on from
--- `said`, which has at most `i` digits. The measure is what is left of the length. Assumes nothing.
+-- `hex::number` meets its contract. The loop's invariant: what the digits say is what those from `i` on say, read on
+-- from `said`, which has at most `i` digits. The measure is what is left of the length. Assumes nothing.
 use Prim.Native.Nat.{ℕ, suc, _+_, _-_, _*_, _^_, _≤_, _<_}
 use native.Mathlib.Nat.{lt-of-lt-of-le, pow-succ', pow-le-pow-right}
 use native.Mathlib.Numerals.{add-one}
@@ -26,12 +26,15 @@ record Read (digits : List ℕ) (said i : ℕ) : Type 0 where
 step : (n : ℕ) (bs : List ℕ) (i : ℕ) → i < length bs → digit-value (getD bs i 0) < no-digit
     → number-on n (drop i bs) ≡ number-on (16 * n + digit-value (getD bs i 0)) (drop (i + 1) bs)
 step n bs i inside is =
-    rw (add-one, drop-cons bs i 0) (number-cons n (getD bs i 0) (digit-value (getD bs i 0)) (drop (suc i) bs) (value-some (getD bs i 0) is))
+    rw (add-one, drop-cons bs i 0) (number-cons n (getD bs i 0) (digit-value (getD bs i 0)) (drop (suc i) bs)
+    (value-some (getD bs i 0) is))
 
 -- a byte at i that is none
-stop : (n : ℕ) (bs : List ℕ) (i : ℕ) → i < length bs → no-digit ≤ digit-value (getD bs i 0) → number-on n (drop i bs) ≡ none
+stop : (n : ℕ) (bs : List ℕ) (i : ℕ) → i < length bs → no-digit ≤ digit-value (getD bs i 0) → number-on n (drop i bs)
+    ≡ none
 stop n bs i inside not-one =
-    ap (number-on n) (drop-cons bs i 0 inside) ∙ number-stop n (getD bs i 0) (drop (suc i) bs) (value-none (getD bs i 0) not-one)
+    ap (number-on n) (drop-cons bs i 0 inside)
+    ∙ number-stop n (getD bs i 0) (drop (suc i) bs) (value-none (getD bs i 0) not-one)
 
 -- before the last of 16 digits, fifteen are read at most
 small : {said i : ℕ} → said < 16 ^ i → i < 16 → said < 16 ^ 15
@@ -57,7 +60,8 @@ unfolding number
 returns c =
     let turn = c .before .before .before in
     sym (ap answered
-    (turn .before .loop .inv .on ∙ stop _ _ _ (turn .loop-test .taken) (omega (arith, c .before .digit-value .ensures))))
+    (turn .before .loop .inv .on ∙ stop _ _ _ (turn .loop-test .taken)
+    (omega (arith, c .before .digit-value .ensures))))
 
 mul-said : tie.Need-mul-said Inv-loop μ-loop
 mul-said c = omega (arith, small (c .before .before .before .before .loop .inv .below) (omega arith))

@@ -1,5 +1,5 @@
--- `hex::put_digits` meets its contract. The loop's invariant: of the digits, those from `i` on are written, and `left` is
--- the number without them. The measure is `i`. Assumes nothing.
+-- `hex::put_digits` meets its contract. The loop's invariant: of the digits, those from `i` on are written, and `left`
+-- is the number without them. The measure is `i`. Assumes nothing.
 use Prim.Native.Nat.{ℕ, suc, _-_, _/_, _%_, _^_, _≤_, _<_}
 use native.Mathlib.Nat.{div-div-eq-div-mul, div-one, mul-comm, mod-lt, pow-succ', sub-self}
 use native.Mathlib.Omega.{arith}
@@ -45,13 +45,15 @@ nothing number part =
     }
 
 -- at last the whole part is
-whole : {size number : ℕ} {part : List ℕ} {left i : ℕ} → Written size number part left i → i ≤ 0 → part ≡ digits size number
+whole : {size number : ℕ} {part : List ℕ} {left i : ℕ} → Written size number part left i → i ≤ 0 → part
+    ≡ digits size number
 whole {size} {number} {part} {left} {i} inv first =
     let from-first : 0 ≡ i = omega arith in
     ap (λ k. drop k part) from-first ∙ inv .done ∙ ap (λ k. digits k number) (omega arith)
 
 -- then the digit before those that are written
-before : {size number : ℕ} {part : List ℕ} {left i d : ℕ} → Written size number part left i → 0 < i → d ≡ digit (left % 16)
+before : {size number : ℕ} {part : List ℕ} {left i d : ℕ} → Written size number part left i → 0 < i → d
+    ≡ digit (left % 16)
     → Written size number (set part (i - 1) d) (left / 16) (i - 1)
 before {size} {number} {part} {left} {i} {d} inv above e =
     let one-more : size - (i - 1) ≡ suc (size - i) = omega (arith, inv .within) in

@@ -15,4 +15,5 @@ returns c =
     }
 
 pub kinkhost-grant-spec : {M : Type 1} → statement M
-kinkhost-grant-spec = tie.close (tie.spec (λ c κs. search needs) (λ c κs. search needs) (λ c. search needs) (λ c. search needs) returns)
+kinkhost-grant-spec =
+    tie.close (tie.spec (λ c κs. search needs) (λ c κs. search needs) (λ c. search needs) (λ c. search needs) returns)

@@ -15,4 +15,5 @@ returns c =
     }
 
 pub kinkhost-release-spec : {M : Type 1} → statement M
-kinkhost-release-spec = tie.close (tie.spec (λ c κs. search needs) (λ c κs. search needs) (λ c. search needs) (λ c. search needs) returns)
+kinkhost-release-spec =
+    tie.close (tie.spec (λ c κs. search needs) (λ c κs. search needs) (λ c. search needs) (λ c. search needs) returns)

@@ -1,5 +1,5 @@
--- `leaf_cases::walk` meets its contract. The invariant: `from` is at most one past the text's end. The measure is what is left to
--- there. Assumes nothing.
+-- `leaf_cases::walk` meets its contract. The invariant: `from` is at most one past the text's end. The measure is what
+-- is left to there. Assumes nothing.
 use Prim.Native.Nat.{_+_, _-_, _≤_}
 use lib.ListN.{length}
 use borrow.Author.Needs.{needs}

@@ -1,4 +1,5 @@
--- `maps::mapped` meets its contract: in each arm the region is the arm's own, at which the definitions compute. Assumes nothing.
+-- `maps::mapped` meets its contract: in each arm the region is the arm's own, at which the definitions compute. Assumes
+-- nothing.
 use mathlib.Core.Path.{sym, ap, _∙_}
 use borrow.Author.Needs.{needs}
 use Rattle.rules.specs.Answers.{map-status}

@@ -1,5 +1,5 @@
--- `maps::through` meets its contract: the offset leaves room for an address / 8, and what `mapped` hands back of the region that
--- `region_of` finds is what `map-call` says of that region. Assumes nothing.
+-- `maps::through` meets its contract: the offset leaves room for an address / 8, and what `mapped` hands back of the
+-- region that `region_of` finds is what `map-call` says of that region. Assumes nothing.
 use mathlib.Core.Path.{sym, _∙_}
 use borrow.Author.Needs.{needs}
 use Rattle.rules.specs.Maps.{shadow-address}

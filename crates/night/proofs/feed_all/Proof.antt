@@ -1,5 +1,5 @@
--- `night::feed_all` meets its contract. The invariant: no more calls than the trace has bytes. The measure is what is left of those. Assumes
--- nothing.
+-- `night::feed_all` meets its contract. The invariant: no more calls than the trace has bytes. The measure is what is
+-- left of those. Assumes nothing.
 use Prim.Native.Nat.{_≤_, _-_}
 use borrow.Author.Needs.{needs}
 use Rattle.night.proofs.feed_all.Statement.{statement}

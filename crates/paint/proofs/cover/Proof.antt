@@ -1,5 +1,5 @@
--- `paint::cover` meets its contract. The invariant is `Filled`: the first i bytes are `value` and the rest is as it was. The
--- measure is what is left of the part. Assumes nothing.
+-- `paint::cover` meets its contract. The invariant is `Filled`: the first i bytes are `value` and the rest is as it
+-- was. The measure is what is left of the part. Assumes nothing.
 use Prim.Native.Nat.{_-_}
 use native.Mathlib.Omega.{arith}
 use lib.ListN.{length}

@@ -1,5 +1,5 @@
--- `paint::cover_granted` meets its contract: the part is covered with zeros, and the remainder, where there is one, is stored
--- in the last granule. Assumes nothing.
+-- `paint::cover_granted` meets its contract: the part is covered with zeros, and the remainder, where there is one, is
+-- stored in the last granule. Assumes nothing.
 use Prim.Native.Nat.{_/_, _%_}
 use native.Mathlib.Omega.{arith}
 use mathlib.Core.Path.{ap, _∙_}
@@ -25,7 +25,8 @@ same-length c = search needs
 returns : tie.Need-returns
 returns c =
     let s = c .before .before .before .before .before .before .args .size in
-    let zeros = c .before .before .before .cover .ensures ∙ ap (λ n. replicate n 0) (c .before .before .before .before .before .before .pre) in
+    let zeros = c .before .before .before .cover .ensures
+    ∙ ap (λ n. replicate n 0) (c .before .before .before .before .before .before .pre) in
     ap (λ l. set l (s / granule) (s % granule)) zeros ∙ granted-rest s (c .if1 .taken)
 
 same-length-2 : tie.Need-same-length-2
@@ -34,7 +35,8 @@ same-length-2 c = search needs
 returns-2 : tie.Need-returns-2
 returns-2 c =
     let s = c .before .before .before .before .before .before .args .size in
-    c .before .before .before .cover .ensures ∙ ap (λ n. replicate n 0) (c .before .before .before .before .before .before .pre) ∙ granted-even s (c .if1 .left)
+    c .before .before .before .cover .ensures
+    ∙ ap (λ n. replicate n 0) (c .before .before .before .before .before .before .pre) ∙ granted-even s (c .if1 .left)
 
 pub cover-granted-spec : {M : Type 1} → statement M
 cover-granted-spec =

@@ -1,5 +1,5 @@
--- `paint::row` meets its contract: the part that is lent has the row's granules that exist, and no granule where the row starts
--- past the shadow's end. Assumes nothing.
+-- `paint::row` meets its contract: the part that is lent has the row's granules that exist, and no granule where the
+-- row starts past the shadow's end. Assumes nothing.
 use Prim.Native.Nat.{ℕ, _+_, _-_, min}
 use native.Mathlib.Omega.{arith}
 use mathlib.Core.Path.{_≡_, sym, ap, _∙_}
@@ -57,7 +57,8 @@ returns c =
 returns-2 : tie.Need-returns-2
 returns-2 c =
     let start = c .before .before in
-    sym (fill-past (now (start .args .shadow)) (start .args .start) (granules (start .args .size)) (start .args .value) (c .if1 .left))
+    sym (fill-past (now (start .args .shadow)) (start .args .start) (granules (start .args .size)) (start .args .value)
+    (c .if1 .left))
 
 pub row-spec : {M : Type 1} → statement M
 row-spec =

@@ -32,7 +32,8 @@ cast-t7 c =
     record {
       fits =
           first-bad-fits shadow address bytes first
-          (bad-judge shadow address bytes (told .kind .given .0 .0) first (sym (judged .judge .ensures) ∙ told .kind .given .1) .0)
+          (bad-judge shadow address bytes (told .kind .given .0 .0) first
+          (sym (judged .judge .ensures) ∙ told .kind .given .1) .0)
           (start .fits .address .fits) (start .pre);
     }
 

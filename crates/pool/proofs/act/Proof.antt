@@ -1,5 +1,5 @@
--- `pool::act` meets its contract: in each arm the frame is the arm's own, and what the arm's function says is the rule's. Assumes
--- nothing.
+-- `pool::act` meets its contract: in each arm the frame is the arm's own, and what the arm's function says is the
+-- rule's. Assumes nothing.
 use mathlib.Core.Path.{sym, ap, _∙_}
 use denote.Ref.{now}
 use borrow.Author.Needs.{needs}
@@ -13,7 +13,8 @@ use Rattle.pool.proofs.act.Tie as tie
 
 -- what the rule says of a frame, and the lent buffers as they were
 abbrev rule : tie.After-slice-known2 → Frame → Acted
-rule c = act (c .before .before .args .session) (now (c .before .before .args .shadow)) (now (c .before .before .args .table))
+rule c = act (c .before .before .args .session) (now (c .before .before .args .shadow))
+    (now (c .before .before .args .table))
 
 abbrev keeping : tie.After-slice-known2 → Answer → Acted
 keeping c answer = unchanged answer (now (c .before .before .args .shadow)) (now (c .before .before .args .table))
@@ -78,7 +79,8 @@ returns-3 : tie.Need-returns-3
 unfolding act
 returns-3 c =
     let told = c .before .before .before in
-    ap (keeping (told .before .before)) (c .access .ensures) ∙ sym (ap (rule (told .before .before)) (told .frame3 .given .1))
+    ap (keeping (told .before .before)) (c .access .ensures)
+    ∙ sym (ap (rule (told .before .before)) (told .frame3 .given .1))
 
 same-length-6 : tie.Need-same-length-6
 same-length-6 c = search needs
@@ -87,7 +89,8 @@ returns-4 : tie.Need-returns-4
 unfolding act
 returns-4 c =
     let told = c .before .before .before in
-    ap (keeping (told .before .before)) (c .access2 .ensures) ∙ sym (ap (rule (told .before .before)) (told .frame4 .given .1))
+    ap (keeping (told .before .before)) (c .access2 .ensures)
+    ∙ sym (ap (rule (told .before .before)) (told .frame4 .given .1))
 
 returns-5 : tie.Need-returns-5
 unfolding act

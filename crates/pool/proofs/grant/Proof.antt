@@ -1,5 +1,5 @@
--- `pool::grant` meets its contract, by the row and the place that were found: a place leaves its granules inside the shadow,
--- and 8 times a place has 32 bits. Assumes nothing.
+-- `pool::grant` meets its contract, by the row and the place that were found: a place leaves its granules inside the
+-- shadow, and 8 times a place has 32 bits. Assumes nothing.
 use Prim.Native.Nat.{ℕ, _*_, _^_, _≤_, _<_}
 use native.Mathlib.Omega.{arith}
 use mathlib.Core.Path.{_≡_, sym, ap, ap₂, _∙_}
@@ -13,7 +13,8 @@ use Rattle.rules.specs.Put.{put}
 use Rattle.rules.specs.Table.{put-row}
 use Rattle.rules.specs.Grant.{acted, counted, granules, granted, place, empty-row, granted-row, grant-at}
 use Rattle.rules.proofs.Lowest.{below-all, answered-one, answered-nothing}
-use Rattle.rules.proofs.Grant.{length-granted, place-inside, place-fits, empty-row-some, grant-no-row, grant-no-place, grant-done}
+use Rattle.rules.proofs.Grant.{length-granted, place-inside, place-fits, empty-row-some, grant-no-row, grant-no-place}
+use Rattle.rules.proofs.Grant.{grant-done}
 use Rattle.rules.proofs.Calls.{lent-granules, lent-redzone}
 use Rattle.pool.proofs.grant.Statement.{statement}
 use Rattle.pool.proofs.grant.Tie as tie
@@ -35,7 +36,8 @@ returns c =
     let rows = c .before .before in
     let start = rows .before .before .before .before in
     sym
-    (grant-no-row (start .args .session .redzone) (now (start .args .shadow)) (now (start .args .table)) (start .args .size)
+    (grant-no-row (start .args .session .redzone) (now (start .args .shadow)) (now (start .args .table))
+    (start .args .size)
     (answered-nothing _ (sym (c .enum-told .given .1) ∙ rows .empty-row .ensures)))
 
 -- where the function starts
@@ -72,7 +74,11 @@ granules-most s fits = omega arith
 place-requires : tie.Need-place-requires
 place-requires c κs =
     let asked = c .before in
-    record { redzone = lent-redzone (from asked .pre); granules = omega (arith, granules-is asked, granules-most (from asked .args .size) (from asked .fits .size .fits)) }
+    record {
+      redzone = lent-redzone (from asked .pre);
+      granules = omega
+          (arith, granules-is asked, granules-most (from asked .args .size) (from asked .fits .size .fits));
+    }
 
 enum-known-place : tie.Need-enum-known-place
 enum-known-place c = search needs
@@ -94,9 +100,11 @@ returns-2 c =
     let R = start .args .session .redzone in
     let shadow = now (start .args .shadow) in
     sym
-    (grant-no-place R shadow (now (start .args .table)) (start .args .size) (Row asked .row .given .0 .0) (row-is (Row asked))
+    (grant-no-place R shadow (now (start .args .table)) (start .args .size) (Row asked .row .given .0 .0)
+    (row-is (Row asked))
     (answered-nothing _
-    (sym (c .enum-told2 .given .1) ∙ placed .place .ensures ∙ ap (λ u. answered (place shadow R u)) (granules-is asked))))
+    (sym (c .enum-told2 .given .1) ∙ placed .place .ensures
+    ∙ ap (λ u. answered (place shadow R u)) (granules-is asked))))
 
 -- the place that was found
 abbrev Asked : tie.After-place2 → tie.After-granules-of
@@ -106,12 +114,14 @@ abbrev begin : tie.After-place2 → tie.Start
 begin c = from (Asked c)
 
 place-is : (c : tie.After-place2)
-    → place (now (begin c .args .shadow)) (begin c .args .session .redzone) (granules (counted (begin c .args .size))) ≡ some (c .place2 .given .0 .0)
+    → place (now (begin c .args .shadow)) (begin c .args .session .redzone) (granules (counted (begin c .args .size)))
+    ≡ some (c .place2 .given .0 .0)
 place-is c =
     answered-one _ _
     (sym (c .place2 .given .1)
     ∙ c .before .before .place .ensures
-    ∙ ap (λ u. answered (place (now (begin c .args .shadow)) (begin c .args .session .redzone) u)) (granules-is (Asked c)))
+    ∙ ap (λ u. answered (place (now (begin c .args .shadow)) (begin c .args .session .redzone) u))
+    (granules-is (Asked c)))
 
 address-fits : (c : tie.After-place2) → granule * c .place2 .given .0 .0 < 2 ^ 32
 address-fits c = place-fits _ _ _ _ (place-is c) (lent-granules (begin c .pre))
@@ -123,7 +133,8 @@ grant-requires c κs =
     let s = counted (start .args .size) in
     omega (
       arith,
-      place-inside (start .args .session .redzone) (now (start .args .shadow)) s (found .place2 .given .0 .0) (place-is found),
+      place-inside (start .args .session .redzone) (now (start .args .shadow)) s (found .place2 .given .0 .0)
+          (place-is found),
       length-granted s,
       ap granules (counted-is (Asked found)),
     )
@@ -137,7 +148,8 @@ granted-row-requires c κs = tt
 put-row-requires : tie.Need-put-row-requires
 put-row-requires c κs =
     let found = c .before .before .before .before .before .before .before in
-    below-all (empty-row-some (now (begin found .args .table)) (Row (Asked found) .row .given .0 .0) (row-is (Row (Asked found))))
+    below-all (empty-row-some (now (begin found .args .table)) (Row (Asked found) .row .given .0 .0)
+    (row-is (Row (Asked found))))
 
 -- the place that the stored row starts at
 abbrev place-of : tie.After-slice-known4 → tie.After-place2
@@ -171,7 +183,8 @@ returns-3 c =
     (painted .grant .ensures ∙ ap (λ s. put shadow p (granted s)) (counted-is (Asked found)))
     (stored .put-row .ensures
     ∙ ap (put-row table i) (row .granted-row .ensures ∙ ap (granted-row p) (counted-is (Asked found))))
-    ∙ sym (grant-done (start .args .session .redzone) shadow table (start .args .size) i p (row-is (Row (Asked found))) (place-is found))
+    ∙ sym (grant-done (start .args .session .redzone) shadow table (start .args .size) i p (row-is (Row (Asked found)))
+    (place-is found))
 
 pub grant-spec : {M : Type 1} → statement M
 grant-spec =

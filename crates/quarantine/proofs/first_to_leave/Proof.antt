@@ -53,36 +53,45 @@ returns-2 c =
     let turns = c .before in
     let other = turns .before .before .before in
     of-both other (One (start other .args .row))
-    (leaves-lower (table other) (start other .args .row) (second other) (omega (arith, turns .number2 .ensures, turns .before .number .ensures)))
+    (leaves-lower (table other) (start other .args .row) (second other)
+    (omega (arith, turns .number2 .ensures, turns .before .number .ensures)))
 
 returns-3 : tie.Need-returns-3
 returns-3 c =
     let turns = c .before .before in
     let other = turns .before .before .before in
     of-both other (One (second other))
-    (leaves-higher (table other) (start other .args .row) (second other) (omega (arith, turns .number2 .ensures, turns .before .number .ensures)))
+    (leaves-higher (table other) (start other .args .row) (second other)
+    (omega (arith, turns .number2 .ensures, turns .before .number .ensures)))
 
 -- on equal turns
 equal : (c : tie.Else2)
-    → (turn (table (c .before .before .before .before .before)) (start (c .before .before .before .before .before) .args .row)
+    → (turn (table (c .before .before .before .before .before))
+    (start (c .before .before .before .before .before) .args .row)
     ≤ turn (table (c .before .before .before .before .before)) (second (c .before .before .before .before .before)))
     × (turn (table (c .before .before .before .before .before)) (second (c .before .before .before .before .before))
-    ≤ turn (table (c .before .before .before .before .before)) (start (c .before .before .before .before .before) .args .row))
+    ≤ turn (table (c .before .before .before .before .before))
+    (start (c .before .before .before .before .before) .args .row))
 equal c =
-    let turns = c .before .before in
-    (omega (arith, turns .number2 .ensures, turns .before .number .ensures), omega (arith, turns .number2 .ensures, turns .before .number .ensures))
+    let turns = c .before .before in (
+      omega (arith, turns .number2 .ensures, turns .before .number .ensures),
+      omega
+          (arith, turns .number2 .ensures, turns .before .number .ensures),
+    )
 
 returns-4 : tie.Need-returns-4
 returns-4 c =
     let other = c .before .before .before .before .before .before in
     of-both other (One (start other .args .row))
-    (leaves-first (table other) (start other .args .row) (second other) (equal (c .before) .0) (equal (c .before) .1) (c .if3 .taken))
+    (leaves-first (table other) (start other .args .row) (second other) (equal (c .before) .0) (equal (c .before) .1)
+    (c .if3 .taken))
 
 returns-5 : tie.Need-returns-5
 returns-5 c =
     let other = c .before .before .before .before .before .before in
     of-both other (One (second other))
-    (leaves-second (table other) (start other .args .row) (second other) (equal (c .before) .0) (equal (c .before) .1) (c .if3 .left))
+    (leaves-second (table other) (start other .args .row) (second other) (equal (c .before) .0) (equal (c .before) .1)
+    (c .if3 .left))
 
 pub first-to-leave-spec : {M : Type 1} → statement M
 first-to-leave-spec =

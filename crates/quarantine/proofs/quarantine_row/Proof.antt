@@ -1,5 +1,5 @@
--- `quarantine::quarantine_row` meets its contract: the row is painted, its state and turn are set, its weight is added, and it
--- is set against the oldest before it. Assumes nothing.
+-- `quarantine::quarantine_row` meets its contract: the row is painted, its state and turn are set, its weight is added,
+-- and it is set against the oldest before it. Assumes nothing.
 use Prim.Native.Nat.{ℕ, _+_, _*_, _^_, _≤_, _<_}
 use native.Mathlib.Omega.{arith}
 use mathlib.Core.Path.{_≡_, sym, ap, ap₂, _∙_}
@@ -54,9 +54,13 @@ add-weight c =
     let table = now (start .args .table) in
     let fits : (j : ℕ) → size table j < 2 ^ 32 =
     λ j. omega (arith, known .slice-known2 .given (row-numbers * j + size-column)) in
-    let so-far : start .args .seen .weight ≤ rows table * 2 ^ 33 = omega (arith, start .pre .weight-is, weights-most R table (start .pre .lent .near) fits) in
+    let so-far : start .args .seen .weight ≤ rows table * 2 ^ 33 =
+    omega (arith, start .pre .weight-is, weights-most R table (start .pre .lent .near) fits) in
     let one-more = weighed .weight-of .ensures ∙ ap (weight R) (sized .number2 .ensures) in
-    record { fits = weights-fit (rows table) (start .args .row) (start .args .seen .weight) (weighed .weight-of .result) (start .pre .lent) (omega arith) fits so-far one-more }
+    record {
+      fits = weights-fit (rows table) (start .args .row) (start .args .seen .weight) (weighed .weight-of .result)
+          (start .pre .lent) (omega arith) fits so-far one-more;
+    }
 
 row-requires : tie.Need-row-requires
 row-requires c κs = search needs
@@ -71,12 +75,13 @@ set-number-requires-2 c κs =
     let start = painted .before .before .before .before .before .before .before .before .before .before .before in
     let stored = stated .set-number in
     record {
-      below = below-same (now (start .args .table)) (stored .last .0) (start .args .row) (stored .kept .0) (start .pre .below);
+      below = below-same (now (start .args .table)) (stored .last .0) (start .args .row) (stored .kept .0)
+          (start .pre .below);
       in-row = omega arith;
     }
 
--- from the end of the two stores back: the first of them, the painting, the weighing, the size read, the start read, the
--- beginning
+-- from the end of the two stores back: the first of them, the painting, the weighing, the size read, the start read,
+-- the beginning
 abbrev stated : tie.After-set-number2 → tie.After-set-number
 stated c = c .before .before .before .before
 

@@ -54,7 +54,8 @@ live-some : (c : tie.After-live) → live-row (c .before .before) ≡ some (c .l
 unfolding survey
 live-some c =
     let surveyed = c .before .before in
-    answered-one (live-row surveyed) (c .live .given .0 .0) (sym (c .live .given .1) ∙ ap (λ s. s .live) (surveyed .survey .ensures))
+    answered-one (live-row surveyed) (c .live .given .0 .0)
+    (sym (c .live .given .1) ∙ ap (λ s. s .live) (surveyed .survey .ensures))
 
 -- and of the quarantined ones
 abbrev quarantined-row : tie.After-survey → Option ℕ
@@ -69,7 +70,8 @@ refused : (c : tie.After-enum-told) (answer : Answer)
     → ((i : ℕ) → quarantined-row (c .before .before) ≡ some i → answer ≡ Released)
     → (quarantined-row (c .before .before) ≡ none → answer ≡ NotHeld)
     → unchanged answer (now (start (c .before .before) .args .shadow)) (now (start (c .before .before) .args .table))
-    ≡ release (start (c .before .before) .args .redzone) (start (c .before .before) .args .quarantine) (now (start (c .before .before) .args .shadow))
+    ≡ release (start (c .before .before) .args .redzone) (start (c .before .before) .args .quarantine)
+    (now (start (c .before .before) .args .shadow))
     (now (start (c .before .before) .args .table)) (start (c .before .before) .args .address)
 refused c answer again never =
     let surveyed = c .before .before in
@@ -80,10 +82,12 @@ refused c answer again never =
     by-found (quarantined-row surveyed)
     (λ i e.
     ap (λ a. unchanged a shadow table) (again i e)
-    ∙ sym (release-twice (from .args .redzone) (from .args .quarantine) shadow table (from .args .address) i (else .if1 .left) (live-none c) e))
+    ∙ sym (release-twice (from .args .redzone) (from .args .quarantine) shadow table (from .args .address) i
+    (else .if1 .left) (live-none c) e))
     (λ e.
     ap (λ a. unchanged a shadow table) (never e)
-    ∙ sym (release-foreign (from .args .redzone) (from .args .quarantine) shadow table (from .args .address) (else .if1 .left) (live-none c) e))
+    ∙ sym (release-foreign (from .args .redzone) (from .args .quarantine) shadow table (from .args .address)
+    (else .if1 .left) (live-none c) e))
 
 same-length : tie.Need-same-length
 same-length c = search needs
@@ -91,7 +95,8 @@ same-length c = search needs
 returns-2 : tie.Need-returns-2
 returns-2 c =
     let surveyed = c .before .before .before in
-    refused (c .before) Released (λ i e. refl) (λ e. absurd (true≢false (sym (c .if2 .taken) ∙ again-is surveyed ∙ ap found e)))
+    refused (c .before) Released (λ i e. refl)
+    (λ e. absurd (true≢false (sym (c .if2 .taken) ∙ again-is surveyed ∙ ap found e)))
 
 same-length-2 : tie.Need-same-length-2
 same-length-2 c = search needs
@@ -99,7 +104,8 @@ same-length-2 c = search needs
 returns-3 : tie.Need-returns-3
 returns-3 c =
     let surveyed = c .before .before .before in
-    refused (c .before) NotHeld (λ i e. absurd (true≢false (sym (ap found e) ∙ sym (again-is surveyed) ∙ c .if2 .left))) (λ e. refl)
+    refused (c .before) NotHeld (λ i e. absurd (true≢false (sym (ap found e) ∙ sym (again-is surveyed) ∙ c .if2 .left)))
+    (λ e. refl)
 
 quarantine-row-requires : tie.Need-quarantine-row-requires
 unfolding survey
@@ -109,7 +115,8 @@ quarantine-row-requires c κs =
     let start = surveyed .before .before .before .before .before in
     let table = now (start .args .table) in
     let row = told .live .given .0 .0 in
-    let at : StartsAt live table (start .args .address) row = row-at-some live table (start .args .address) row (live-some told) in
+    let at : StartsAt live table (start .args .address) row =
+    row-at-some live table (start .args .address) row (live-some told) in
     record {
       lent = start .pre;
       below = at .below;
@@ -142,7 +149,8 @@ returns-4 c =
     let table = now (start .args .table) in
     ap (λ s. acted (Done (s .evicted)) (s .pool .shadow) (s .pool .table))
     (done .settle .ensures ∙ ap (settle R Q) (entered .quarantine-row .ensures .pool-after))
-    ∙ sym (release-done R Q shadow table (start .args .address) (told .live .given .0 .0) (else .if1 .left) (live-some told))
+    ∙ sym (release-done R Q shadow table (start .args .address) (told .live .given .0 .0) (else .if1 .left)
+    (live-some told))
 
 pub release-spec : {M : Type 1} → statement M
 release-spec =

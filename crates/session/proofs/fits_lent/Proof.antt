@@ -1,4 +1,5 @@
--- `session::fits_lent` meets its contract: within its limits four times the rows fit, and the tests are the definition's. Assumes nothing.
+-- `session::fits_lent` meets its contract: within its limits four times the rows fit, and the tests are the
+-- definition's. Assumes nothing.
 use Prim.Native.Nat.{_*_}
 use native.Mathlib.Omega.{arith}
 use mathlib.Core.Path.{sym, ap}
@@ -23,7 +24,8 @@ unfolding fits-session lent-lengths
 returns c =
     let start = c .before .before .before .before in
     let session = start .args .session in
-    ap (λ within. within && (eqb (length (now (start .args .shadow))) (session .granules) && eqb (length (now (start .args .table))) (row-numbers * session .rows)))
+    ap (λ within. within && (eqb (length (now (start .args .shadow))) (session .granules)
+    && eqb (length (now (start .args .table))) (row-numbers * session .rows)))
     (sym (denied (c .before .within-limits .ensures) (c .if1 .taken)))
 
 mul-of-table : tie.Need-mul-of-table
@@ -39,7 +41,8 @@ returns-2 c =
     let test = c .before .before in
     let start = test .before .before .before .before in
     let session = start .args .session in
-    ap (λ within. within && (eqb (length (now (start .args .shadow))) (session .granules) && eqb (length (now (start .args .table))) (row-numbers * session .rows)))
+    ap (λ within. within && (eqb (length (now (start .args .shadow))) (session .granules)
+    && eqb (length (now (start .args .table))) (row-numbers * session .rows)))
     (sym (passed (test .before .within-limits .ensures) (test .if1 .left)))
 
 pub fits-lent-spec : {M : Type 1} → statement M

@@ -1,5 +1,5 @@
--- `session::unused_zero` meets its contract. The invariant: the places from `used` on are zero exactly where those from i on are.
--- The measure is what is left of the places. Assumes nothing.
+-- `session::unused_zero` meets its contract. The invariant: the places from `used` on are zero exactly where those from
+-- i on are. The measure is what is left of the places. Assumes nothing.
 use Prim.Native.Nat.{_-_}
 use native.Mathlib.Omega.{arith}
 use mathlib.Core.Path.{_≡_, refl, sym, _∙_}

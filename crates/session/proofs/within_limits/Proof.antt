@@ -28,7 +28,8 @@ returns c =
     let redzone = c .before .before .before in
     let rows = redzone .before in
     let granules = rows .before in
-    joined (joined (joined (joined (granules .granules-within .ensures) (rows .between .ensures)) (redzone .redzone-within .ensures)) refl) (c .unused-zero .ensures)
+    joined (joined (joined (joined (granules .granules-within .ensures) (rows .between .ensures))
+    (redzone .redzone-within .ensures)) refl) (c .unused-zero .ensures)
 
 pub within-limits-spec : {M : Type 1} → statement M
 within-limits-spec =

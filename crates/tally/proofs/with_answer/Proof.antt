@@ -1,4 +1,5 @@
--- `tally::with_answer` meets its contract. Each return opens the choices of `with-answer` by its tests. Assumes nothing.
+-- `tally::with_answer` meets its contract. Each return opens the choices of `with-answer` by its tests. Assumes
+-- nothing.
 use Rattle.tally.proofs.Counting.{noted-is, further-done, further-later}
 use borrow.Author.Needs.{needs}
 use Rattle.tally.proofs.with_answer.Statement.{statement}
@@ -7,12 +8,14 @@ use Rattle.tally.proofs.with_answer.Tie as tie
 returns : tie.Need-returns
 returns c =
     let counts = c .before .before .before in
-    noted-is _ _ (counts .before .before .more .ensures) (counts .counted .ensures) (c .before .if1 .taken) (c .if2 .taken)
+    noted-is _ _ (counts .before .before .more .ensures) (counts .counted .ensures) (c .before .if1 .taken)
+    (c .if2 .taken)
 
 returns-2 : tie.Need-returns-2
 returns-2 c =
     let counts = c .before .before .before in
-    further-done _ _ (counts .before .before .more .ensures) (counts .counted .ensures) (c .before .if1 .taken) (c .if2 .left)
+    further-done _ _ (counts .before .before .more .ensures) (counts .counted .ensures) (c .before .if1 .taken)
+    (c .if2 .left)
 
 returns-3 : tie.Need-returns-3
 returns-3 c =

@@ -1,4 +1,5 @@
--- `tally::with_report` meets its contract. The invariant: the answers before `i` are counted. The measure is what is left of them. Assumes nothing.
+-- `tally::with_report` meets its contract. The invariant: the answers before `i` are counted. The measure is what is
+-- left of them. Assumes nothing.
 use Prim.Native.Nat.{_≤_, _-_}
 use native.Mathlib.Omega.{arith}
 use mathlib.Core.Path.{_≡_, sym, ap, _∙_}
@@ -28,4 +29,6 @@ unfolding with-report
 returns c = c .before .loop .inv .1 ∙ ap (with-answers _ _) (omega (arith, c .before .loop .inv .0))
 
 pub with-report-spec : {M : Type 1} → statement M
-with-report-spec = tie.close (tie.spec Inv-loop μ-loop loop-holds (λ c. search needs) (λ c κs. search needs) (λ c κs. search needs) (λ c. search needs) (λ c. search needs) loop-again returns)
+with-report-spec =
+    tie.close (tie.spec Inv-loop μ-loop loop-holds (λ c. search needs) (λ c κs. search needs) (λ c κs. search needs)
+    (λ c. search needs) (λ c. search needs) loop-again returns)

@@ -1,12 +1,13 @@
--- `trace::feed` meets its contract. The invariant is `Feeding`: what is left to run is what was to run, less what is done. The
--- measure is what is left of the piece. Assumes nothing.
+-- `trace::feed` meets its contract. The invariant is `Feeding`: what is left to run is what was to run, less what is
+-- done. The measure is what is left of the piece. Assumes nothing.
 use Prim.Native.Nat.{_-_}
 use native.Mathlib.Omega.{arith}
 use lib.ListN.{length}
 use borrow.Author.Needs.{needs}
 use Rattle.rules.specs.Watcher.{state-of}
 use Rattle.trace.specs.Feed.{ran}
-use Rattle.trace.proofs.Feeding.{Feeding, feeding-start, feeding-room, feeding-byte, feeding-part, feeding-line, feeding-end, feeding-full}
+use Rattle.trace.proofs.Feeding.{Feeding, feeding-start, feeding-room, feeding-byte, feeding-part, feeding-line}
+use Rattle.trace.proofs.Feeding.{feeding-end, feeding-full}
 use Rattle.trace.proofs.feed.Statement.{statement}
 use Rattle.trace.proofs.feed.Tie as tie
 
@@ -15,7 +16,8 @@ Inv-loop shadow₀ table₀ piece room₀ status current₀ taken₀ wrote₀ sh
     Feeding (state-of current₀ shadow₀ table₀) piece room₀ (state-of current shadow table) room taken wrote
 
 abbrev μ-loop : tie.MeasureT-loop
-μ-loop shadow₀ table₀ piece room₀ status current₀ taken₀ wrote₀ shadow table room current taken wrote = length piece - taken
+μ-loop shadow₀ table₀ piece room₀ status current₀ taken₀ wrote₀ shadow table room current taken wrote =
+    length piece - taken
 
 call-status-of-requires : tie.Need-call-status-of-requires Inv-loop μ-loop
 call-status-of-requires c κs = search needs
@@ -42,7 +44,8 @@ loop-again c =
     feeding-byte (head .loop .inv) (omega arith) (byte .if1 .taken) (c .lengthened .result) (c .lengthened .ensures)
 
 sub-if2 : tie.Need-sub-if2 Inv-loop μ-loop
-sub-if2 c = omega (arith, feeding-room (c .before .before .before .loop .inv), c .before .before .before .loop .inv .most)
+sub-if2 c =
+    omega (arith, feeding-room (c .before .before .before .loop .inv), c .before .before .before .loop .inv .most)
 
 add-end : tie.Need-add-end Inv-loop μ-loop
 add-end c =
@@ -75,7 +78,8 @@ loop-again-2 c =
     let room = finished .before .before .before .before in
     let head = room .before .before .before .before in
     let last = finished .finish .last .1 in
-    feeding-line (head .loop .inv) (omega arith) (room .before .if1 .left) (omega (arith, feeding-room (head .loop .inv)))
+    feeding-line (head .loop .inv) (omega arith) (room .before .if1 .left)
+    (omega (arith, feeding-room (head .loop .inv)))
     (ran (finished .finish .result) (last .0) (last .1 .0) (last .1 .1 .0)) (finished .finish .ensures)
 
 same-length : tie.Need-same-length Inv-loop μ-loop

@@ -1,5 +1,5 @@
--- `trace::finish` meets its contract: the frame, what it does, its answer and the emptied line are the rule's, one after the
--- other. Assumes nothing.
+-- `trace::finish` meets its contract: the frame, what it does, its answer and the emptied line are the rule's, one
+-- after the other. Assumes nothing.
 use mathlib.Core.Path.{ap, _∙_}
 use denote.Ref.{now}
 use borrow.Author.Needs.{needs}
@@ -49,7 +49,9 @@ returns c =
     let act-after = acted .act .last .1 in
     ap (ran (c .emptied .result) (act-after .0) (act-after .1 .0)) (answered .put-answer .ensures)
     ∙ ap (λ s. ran s (act-after .0) (act-after .1 .0) (answer-line (acted .act .result))) (c .emptied .ensures)
-    ∙ ap (finished (emptied session)) (acted .act .ensures ∙ ap (act session (now (start .args .shadow)) (now (start .args .table))) (framed .frame-of-line .ensures))
+    ∙ ap (finished (emptied session))
+    (acted .act .ensures ∙ ap (act session (now (start .args .shadow)) (now (start .args .table)))
+    (framed .frame-of-line .ensures))
 
 pub finish-spec : {M : Type 1} → statement M
 finish-spec =

@@ -1,4 +1,5 @@
--- `watcher::access` meets its contract: 24 where the session does not fit what is lent, else as its frames do. Assumes nothing.
+-- `watcher::access` meets its contract: 24 where the session does not fit what is lent, else as its frames do. Assumes
+-- nothing.
 use mathlib.Core.Path.{sym, ap, _∙_}
 use denote.Ref.{now}
 use borrow.Author.Needs.{needs}
@@ -16,7 +17,10 @@ returns : tie.Need-returns
 returns c =
     let start = c .before .before .before .before in
     let fails = denied (c .before .fits-lent .ensures) (c .if1 .taken) in
-    record { answer = sym (access-24 (start .args .session) (now (start .args .shadow)) (now (start .args .table)) (start .args .address) (start .args .length) fails) }
+    record {
+      answer = sym (access-24 (start .args .session) (now (start .args .shadow)) (now (start .args .table))
+          (start .args .address) (start .args .length) fails);
+    }
 
 access-requires : tie.Need-access-requires
 access-requires c κs =

@@ -1,4 +1,5 @@
--- `watcher::feed` meets its contract: 24 where the session does not fit what is lent, else the bytes that are taken, run. Assumes nothing.
+-- `watcher::feed` meets its contract: 24 where the session does not fit what is lent, else the bytes that are taken,
+-- run. Assumes nothing.
 use Prim.Native.Nat.{ℕ}
 use mathlib.Core.Path.{sym, ap, _∙_}
 use denote.Ref.{now}

@@ -1,4 +1,5 @@
--- `watcher::grant` meets its contract: 24 where the session does not fit what is lent, else as its frame does. Assumes nothing.
+-- `watcher::grant` meets its contract: 24 where the session does not fit what is lent, else as its frame does. Assumes
+-- nothing.
 use mathlib.Core.Path.{sym, ap, _∙_}
 use denote.Ref.{now}
 use borrow.Author.Needs.{needs}

@@ -28,7 +28,8 @@ table-of c = now (Start c .args .table)
 granules-pass : (c : tie.Else1) → between least-granules most-granules (length (shadow-of (c .before))) ≡ true
 granules-pass c = passed (c .before .granules-within .ensures) (c .if1 .left)
 
-redzone-passes : (c : tie.Else2) → between least-redzone most-redzone (Start (c .before .before .before) .args .redzone) ≡ true
+redzone-passes : (c : tie.Else2) → between least-redzone most-redzone (Start (c .before .before .before) .args .redzone)
+    ≡ true
 redzone-passes c = passed (c .before .redzone-within .ensures) (c .if2 .left)
 
 table-passes : (c : tie.Else3) → table-length (length (table-of (c .before .before .before .before .before))) ≡ true
@@ -65,7 +66,8 @@ returns-2 c =
     let fails = denied (test .before .redzone-within .ensures) (test .if2 .taken) in
     open-call-is
     (ap (λ given. opened given (shadow-of at) (table-of at)) (c .not-opened2 .ensures)
-    ∙ sym (open-bad-redzone (shadow-of at) (table-of at) (start .args .redzone) (start .args .quarantine) (granules-pass one) fails))
+    ∙ sym (open-bad-redzone (shadow-of at) (table-of at) (start .args .redzone) (start .args .quarantine)
+    (granules-pass one) fails))
 
 table-length-requires : tie.Need-table-length-requires
 table-length-requires c κs = search needs
@@ -83,7 +85,8 @@ returns-3 c =
     let fails = denied (test .before .table-length .ensures) (test .if3 .taken) in
     open-call-is
     (ap (λ given. opened given (shadow-of at) (table-of at)) (c .not-opened3 .ensures)
-    ∙ sym (open-bad-table (shadow-of at) (table-of at) (start .args .redzone) (start .args .quarantine) (granules-pass one) (redzone-passes two) fails))
+    ∙ sym (open-bad-table (shadow-of at) (table-of at) (start .args .redzone) (start .args .quarantine)
+    (granules-pass one) (redzone-passes two) fails))
 
 cover-requires : tie.Need-cover-requires
 cover-requires c κs = search needs

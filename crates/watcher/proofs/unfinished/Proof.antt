@@ -19,7 +19,13 @@ cast-t5 : tie.Need-cast-t5
 cast-t5 c =
     let test = c .before in
     let session = test .before .before .args .session in
-    record { fits = omega (arith, within-true session (passed (test .before .within-limits .ensures) (test .if1 .left)) .unfinished) }
+    record {
+      fits = omega (
+        arith,
+        within-true session
+            (passed (test .before .within-limits .ensures) (test .if1 .left)) .unfinished,
+      );
+    }
 
 returns-2 : tie.Need-returns-2
 returns-2 c =

@@ -1,5 +1,5 @@
--- `blocks::rows::clear` meets its contract. The invariant is `Filled`: the first i numbers are 0 and the rest is as it was. The
--- measure is what is left of the table. Assumes nothing.
+-- `blocks::rows::clear` meets its contract. The invariant is `Filled`: the first i numbers are 0 and the rest is as it
+-- was. The measure is what is left of the table. Assumes nothing.
 use Prim.Native.Nat.{_-_}
 use native.Mathlib.Omega.{arith}
 use lib.ListN.{length}
@@ -41,4 +41,5 @@ returns c = filled-all (c .before .loop .inv) (omega arith)
 
 pub clear-spec : {M : Type 1} → statement M
 clear-spec =
-    tie.close (tie.spec Inv-loop μ-loop loop-holds mul-table slice-write-table add-i loop-less loop-again same-length returns)
+    tie.close
+    (tie.spec Inv-loop μ-loop loop-holds mul-table slice-write-table add-i loop-less loop-again same-length returns)

@@ -1,5 +1,5 @@
--- `blocks::rows::empty_row` meets its contract. The invariant: what is sought is sought among the rows from `row` on. The measure is
--- what is left of the rows. Assumes nothing.
+-- `blocks::rows::empty_row` meets its contract. The invariant: what is sought is sought among the rows from `row` on.
+-- The measure is what is left of the rows. Assumes nothing.
 use Prim.Native.Nat.{_-_, _/_, _≤_}
 use native.Mathlib.Omega.{arith}
 use mathlib.Core.Path.{_≡_, sym, ap, _∙_}
@@ -36,8 +36,10 @@ returns : tie.Need-returns Inv-loop μ-loop
 returns c =
     let loop = c .before .before .before .loop in
     let table = now (c .before .before .before .before .before .args .table) in
-    let is : is-empty table (loop .row) ≡ true = eq-eqb (state table (loop .row)) empty (sym (c .before .number .ensures) ∙ c .if1 .taken) in
-    sym (ap answered (loop .inv .1 ∙ walk-found (is-empty table) (length table / row-numbers) (loop .row) (omega arith) is))
+    let is : is-empty table (loop .row) ≡ true =
+    eq-eqb (state table (loop .row)) empty (sym (c .before .number .ensures) ∙ c .if1 .taken) in
+    sym (ap answered (loop .inv .1 ∙ walk-found (is-empty table) (length table / row-numbers) (loop .row)
+    (omega arith) is))
 
 add-row : tie.Need-add-row Inv-loop μ-loop
 add-row c = omega arith

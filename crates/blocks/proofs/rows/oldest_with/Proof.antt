@@ -1,5 +1,5 @@
--- `blocks::rows::oldest_with` meets its contract: a row that is not quarantined changes nothing, the first that is becomes the oldest,
--- and a later one only where its turn is lower. Assumes nothing.
+-- `blocks::rows::oldest_with` meets its contract: a row that is not quarantined changes nothing, the first that is
+-- becomes the oldest, and a later one only where its turn is lower. Assumes nothing.
 use Prim.Native.Nat.{ℕ, _+_}
 use native.Mathlib.Omega.{arith}
 use native.Mathlib.Numerals.{add-one}
@@ -20,7 +20,8 @@ use Rattle.blocks.proofs.rows.oldest_with.Statement.{statement}
 use Rattle.blocks.proofs.rows.oldest_with.Tie as tie
 
 -- a quarantined row, and the one that leaves first of it and those before
-here : (table : List ℕ) (i k : ℕ) → state table i ≡ quarantined → older table (oldest table i) i ≡ k → One k ≡ answered (oldest table (i + 1))
+here : (table : List ℕ) (i k : ℕ) → state table i ≡ quarantined → older table (oldest table i) i ≡ k → One k
+    ≡ answered (oldest table (i + 1))
 here table i k is chosen =
     sym
     (ap (λ n. answered (oldest table n)) (add-one i)
@@ -37,7 +38,8 @@ returns c =
     start .pre .before
     ∙ sym
     (ap (λ n. answered (oldest table n)) (add-one row)
-    ∙ ap answered (oldest-other table row (ne-eqb (state table row) quarantined (λ e. c .if1 .taken (c .before .number .ensures ∙ e)))))
+    ∙ ap answered (oldest-other table row
+    (ne-eqb (state table row) quarantined (λ e. c .if1 .taken (c .before .number .ensures ∙ e)))))
 
 enum-known-before : tie.Need-enum-known-before
 enum-known-before c = search needs
@@ -51,11 +53,14 @@ returns-2 c =
     let start = if1 .before .before .before in
     let table = now (start .args .table) in
     let row = start .args .row in
-    let nothing : oldest table row ≡ none = answered-nothing (oldest table row) (sym (c .enum-told .given .1) ∙ start .pre .before) in
-    here table row row (sym (if1 .before .number .ensures) ∙ if1 .if1 .left) (ap (λ o. older table o row) nothing ∙ older-none table row)
+    let nothing : oldest table row ≡ none =
+    answered-nothing (oldest table row) (sym (c .enum-told .given .1) ∙ start .pre .before) in
+    here table row row (sym (if1 .before .number .ensures) ∙ if1 .if1 .left)
+    (ap (λ o. older table o row) nothing ∙ older-none table row)
 
 number-requires-2 : tie.Need-number-requires-2
-number-requires-2 c κs = record { below = c .before .before .before .before .before .before .pre .below; in-row = omega arith }
+number-requires-2 c κs =
+    record { below = c .before .before .before .before .before .before .pre .below; in-row = omega arith }
 
 -- the oldest of the rows before, once it is told that there is one
 abbrev start : tie.After-before2 → tie.Start
@@ -66,31 +71,37 @@ other c = c .before2 .given .0 .0
 
 other-is : (c : tie.After-before2) → oldest (now (start c .args .table)) (start c .args .row) ≡ some (other c)
 other-is c =
-    answered-one (oldest (now (start c .args .table)) (start c .args .row)) (other c) (sym (c .before2 .given .1) ∙ start c .pre .before)
+    answered-one (oldest (now (start c .args .table)) (start c .args .row)) (other c)
+    (sym (c .before2 .given .1) ∙ start c .pre .before)
 
 number-requires-3 : tie.Need-number-requires-3
 number-requires-3 c κs =
     let told = c .before .before in
-    let o : Oldest (now (start told .args .table)) (start told .args .row) (other told) = oldest-some (now (start told .args .table)) (start told .args .row) (other told) (other-is told) in
+    let o : Oldest (now (start told .args .table)) (start told .args .row) (other told) =
+    oldest-some (now (start told .args .table)) (start told .args .row) (other told) (other-is told) in
     record { below = omega (arith, o .below, start told .pre .below); in-row = omega arith }
 
 -- by the two turns
 chosen : (c : tie.After-number3) (k : ℕ)
-    → older (now (start (c .before .before .before) .args .table)) (some (other (c .before .before .before))) (start (c .before .before .before) .args .row) ≡ k
-    → One k ≡ answered (oldest (now (start (c .before .before .before) .args .table)) (start (c .before .before .before) .args .row + 1))
+    → older (now (start (c .before .before .before) .args .table)) (some (other (c .before .before .before)))
+    (start (c .before .before .before) .args .row) ≡ k
+    → One k ≡ answered (oldest (now (start (c .before .before .before) .args .table))
+    (start (c .before .before .before) .args .row + 1))
 chosen c k is =
     let told = c .before .before .before in
     let if1 = told .before .before in
     let table = now (start told .args .table) in
     let row = start told .args .row in
-    here table row k (sym (if1 .before .number .ensures) ∙ if1 .if1 .left) (ap (λ o. older table o row) (other-is told) ∙ is)
+    here table row k (sym (if1 .before .number .ensures) ∙ if1 .if1 .left)
+    (ap (λ o. older table o row) (other-is told) ∙ is)
 
 returns-3 : tie.Need-returns-3
 returns-3 c =
     let told = c .before .before .before .before in
     let row = start told .args .row in
     chosen (c .before) row
-    (older-lower (now (start told .args .table)) (other told) row (omega (arith, c .before .before .number2 .ensures, c .before .number3 .ensures)))
+    (older-lower (now (start told .args .table)) (other told) row
+    (omega (arith, c .before .before .number2 .ensures, c .before .number3 .ensures)))
 
 returns-4 : tie.Need-returns-4
 returns-4 c =

@@ -1,5 +1,5 @@
--- `blocks::rows::put_row` meets its contract. The invariant: the first k numbers of the new row are stored, and all else is
--- as it was. The measure is what is left of the row's numbers. Assumes nothing.
+-- `blocks::rows::put_row` meets its contract. The invariant: the first k numbers of the new row are stored, and all
+-- else is as it was. The measure is what is left of the row's numbers. Assumes nothing.
 use Prim.Native.Nat.{_+_, _-_, _*_, _≤_}
 use native.Mathlib.Omega.{arith}
 use mathlib.Core.Path.{_≡_, ap, _∙_}

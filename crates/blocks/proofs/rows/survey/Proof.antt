@@ -1,5 +1,5 @@
--- `blocks::rows::survey` meets its contract. The invariant: `seen` is what was found in the rows before `row`. The measure is what is
--- left of the rows. Assumes nothing.
+-- `blocks::rows::survey` meets its contract. The invariant: `seen` is what was found in the rows before `row`. The
+-- measure is what is left of the rows. Assumes nothing.
 use Prim.Native.Nat.{_-_, _/_, _≤_}
 use native.Mathlib.Omega.{arith}
 use mathlib.Core.Path.{_≡_, refl, ap, _∙_}
@@ -25,7 +25,8 @@ loop-holds c = (omega arith, refl)
 
 with-row-requires : tie.Need-with-row-requires Inv-loop μ-loop
 unfolding table.rows
-with-row-requires c κs = record { lent = c .before .before .before .pre; below = c .loop-test .taken; before = c .before .loop .inv .1 }
+with-row-requires c κs =
+    record { lent = c .before .before .before .pre; below = c .loop-test .taken; before = c .before .loop .inv .1 }
 
 add-row : tie.Need-add-row Inv-loop μ-loop
 add-row c = omega arith

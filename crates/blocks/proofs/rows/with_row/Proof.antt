@@ -10,7 +10,8 @@ use Rattle.rules.specs.Limits.{granule, size-column, row-numbers}
 use Rattle.rules.specs.Table.{column, size}
 use Rattle.rules.specs.Release.{starts-at, weight}
 use Rattle.blocks.specs.Survey.{first-of, surveyed}
-use Rattle.blocks.proofs.Survey.{rows-most, weights-fit, count-most, weight-most-so-far, surveyed-live, surveyed-quarantined, surveyed-other}
+use Rattle.blocks.proofs.Survey.{rows-most, weights-fit, count-most, weight-most-so-far, surveyed-live}
+use Rattle.blocks.proofs.Survey.{surveyed-quarantined, surveyed-other}
 use Rattle.blocks.proofs.rows.with_row.Statement.{statement}
 use Rattle.blocks.proofs.rows.with_row.Tie as tie
 
@@ -48,7 +49,8 @@ add-count c =
     let start = c .before .before .before .before .before .before in
     omega (
       arith,
-      count-most (start .args .redzone) (now (start .args .table)) (start .args .address) (start .args .row) (start .args .seen) (start .pre .before),
+      count-most (start .args .redzone) (now (start .args .table)) (start .args .address) (start .args .row)
+          (start .args .seen) (start .pre .before),
       start .pre .below,
       rows-most (start .pre .lent),
     )
@@ -70,9 +72,13 @@ add-weight c =
     let row = start .args .row in
     let fits : (j : ℕ) → size table j < 2 ^ 32 =
     λ j. omega (arith, known .shared-slice-known .given (row-numbers * j + size-column)) in
-    let so-far = weight-most-so-far R table (start .args .address) row (start .args .seen) (start .pre .before) (start .pre .lent .near) fits in
+    let so-far = weight-most-so-far R table (start .args .address) row (start .args .seen) (start .pre .before)
+    (start .pre .lent .near) fits in
     let one-more = weighed .weight-of .ensures ∙ ap (weight R) (weighed .before .number3 .ensures) in
-    record { fits = weights-fit row row (start .args .seen .weight) (weighed .weight-of .result) (start .pre .lent) (omega (arith, start .pre .below)) fits so-far one-more }
+    record {
+      fits = weights-fit row row (start .args .seen .weight) (weighed .weight-of .result) (start .pre .lent)
+          (omega (arith, start .pre .below)) fits so-far one-more;
+    }
 
 oldest-with-requires : tie.Need-oldest-with-requires
 unfolding surveyed
@@ -96,14 +102,16 @@ returns-2 c =
     (sym (state .number2 .ensures) ∙ quarantined .if2 .taken)
     (ap (λ t. seen .again || t) here)
     refl
-    (ap (λ w. seen .weight + w) (weighed .weight-of .ensures ∙ ap (weight (start .args .redzone)) (weighed .before .number3 .ensures)))
+    (ap (λ w. seen .weight + w) (weighed .weight-of .ensures
+    ∙ ap (weight (start .args .redzone)) (weighed .before .number3 .ensures)))
     (c .oldest-with .ensures)
 
 returns-3 : tie.Need-returns-3
 returns-3 c =
     let state = c .before .before in
     let start = state .before .before .before in
-    surveyed-other (start .args .redzone) (now (start .args .table)) (start .args .address) (start .args .row) (start .args .seen) (start .pre .before)
+    surveyed-other (start .args .redzone) (now (start .args .table)) (start .args .address) (start .args .row)
+    (start .args .seen) (start .pre .before)
     (λ e. c .before .if1 .left (state .number2 .ensures ∙ e))
     (λ e. c .if2 .left (state .number2 .ensures ∙ e))
 

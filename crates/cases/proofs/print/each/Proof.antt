@@ -1,4 +1,5 @@
--- `cases::print::each` meets its contract. The invariant: i is at most the length. The measure is what is left of it. Assumes nothing.
+-- `cases::print::each` meets its contract. The invariant: i is at most the length. The measure is what is left of it.
+-- Assumes nothing.
 use Prim.Native.Nat.{_≤_, _-_}
 use lib.ListN.{length}
 use borrow.Author.Needs.{needs}

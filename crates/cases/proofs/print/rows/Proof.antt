@@ -1,5 +1,5 @@
--- `cases::print::rows` meets its contract. The invariant: the run began at or before row i, which is at most the number of whole rows. The
--- measure is what is left of those. Assumes nothing.
+-- `cases::print::rows` meets its contract. The invariant: the run began at or before row i, which is at most the number
+-- of whole rows. The measure is what is left of those. Assumes nothing.
 use Prim.Native.Nat.{_≤_, _-_, _*_}
 use mathlib.Core.Logic.{⊎-elim}
 use native.Mathlib.Omega.{arith}
@@ -55,7 +55,9 @@ loop-less : tie.Need-loop-less Inv-loop μ-loop
 loop-less c = search needs
 
 loop-again : tie.Need-loop-again Inv-loop μ-loop
-loop-again c = ⊎-elim (λ w. ((omega arith, omega arith), omega arith)) (λ w. ((omega arith, omega arith), omega arith)) (c .if1 .came)
+loop-again c =
+    ⊎-elim (λ w. ((omega arith, omega arith), omega arith)) (λ w. ((omega arith, omega arith), omega arith))
+    (c .if1 .came)
 
 mul-if2 : tie.Need-mul-if2 Inv-loop μ-loop
 mul-if2 c = search needs

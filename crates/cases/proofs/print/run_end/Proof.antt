@@ -1,5 +1,5 @@
--- `cases::print::run_end` meets its contract. The invariant: i is past `from` and at most the length. The measure is what is left of it.
--- Assumes nothing.
+-- `cases::print::run_end` meets its contract. The invariant: i is past `from` and at most the length. The measure is
+-- what is left of it. Assumes nothing.
 use mathlib.Core.Path.{_≡_}
 use Prim.Native.Nat.{_<_, _≤_, _-_}
 use lib.ListN.{length}

@@ -1,5 +1,5 @@
--- `cases::print::shadow` meets its contract. The invariant: the next run begins at most at the length. The measure is what is left of it,
--- which a run lessens. Assumes nothing.
+-- `cases::print::shadow` meets its contract. The invariant: the next run begins at most at the length. The measure is
+-- what is left of it, which a run lessens. Assumes nothing.
 use Prim.Native.Nat.{_≤_, _-_}
 use lib.ListN.{length}
 use borrow.Author.Needs.{needs}

@@ -1,5 +1,5 @@
--- `cases::tables::number_of` meets its contract. The invariant: i is at most 8. The measure is what is left of that. Assumes
--- nothing.
+-- `cases::tables::number_of` meets its contract. The invariant: i is at most 8. The measure is what is left of that.
+-- Assumes nothing.
 use Prim.Native.Nat.{_-_, _≤_}
 use borrow.Author.Needs.{needs}
 use Rattle.cases.proofs.tables.number_of.Statement.{statement}

@@ -1,5 +1,5 @@
--- `cases::tables::table_of` meets its contract. The invariant: i is at most the length of the table. The measure is what
--- is left of that. Assumes nothing.
+-- `cases::tables::table_of` meets its contract. The invariant: i is at most the length of the table. The measure is
+-- what is left of that. Assumes nothing.
 use Prim.Native.Nat.{_-_, _*_, _≤_}
 use borrow.Author.Needs.{needs}
 use Rattle.rules.specs.Limits.{row-numbers}

@@ -1,5 +1,5 @@
--- `cases::text::bytes_in` meets its contract. The invariant: at most 16 are counted. The measure is what is left of them. Assumes
--- nothing.
+-- `cases::text::bytes_in` meets its contract. The invariant: at most 16 are counted. The measure is what is left of
+-- them. Assumes nothing.
 use Prim.Native.Nat.{_-_, _≤_}
 use borrow.Author.Needs.{needs}
 use Rattle.cases.proofs.text.bytes_in.Statement.{statement}

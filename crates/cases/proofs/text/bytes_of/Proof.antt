@@ -1,5 +1,5 @@
--- `cases::text::bytes_of` meets its contract. The invariant: i is at most the count, which is at most 16. The measure is what is
--- left of the count. Assumes nothing.
+-- `cases::text::bytes_of` meets its contract. The invariant: i is at most the count, which is at most 16. The measure
+-- is what is left of the count. Assumes nothing.
 use Prim.Native.Nat.{_-_, _≤_}
 use borrow.Author.Needs.{needs}
 use Rattle.cases.proofs.text.bytes_of.Statement.{statement}

@@ -1,4 +1,5 @@
--- `cases::text::number` meets its contract. No invariant is needed. The measure is what is left of the line. Assumes nothing.
+-- `cases::text::number` meets its contract. No invariant is needed. The measure is what is left of the line. Assumes
+-- nothing.
 use Prim.Native.Nat.{_-_}
 use lib.ListN.{length}
 use borrow.Author.Needs.{needs}

@@ -1,5 +1,5 @@
--- `frames::lines::fields_of_digits` meets its contract: what `number` finds in each of the three parts of the line is what the
--- definition asks of it, and a number of 2 digits fits 8 bits, one of 8 digits 32. Assumes nothing.
+-- `frames::lines::fields_of_digits` meets its contract: what `number` finds in each of the three parts of the line is
+-- what the definition asks of it, and a number of 2 digits fits 8 bits, one of 8 digits 32. Assumes nothing.
 use Prim.Native.Nat.{ℕ}
 use native.Mathlib.Omega.{arith}
 use mathlib.Core.Path.{_≡_, sym, ap, _∙_}

@@ -1,5 +1,5 @@
--- `frames::lines::frame` meets its contract: at each kind `frame` computes, and at none of them `frame-other` refuses. Assumes
--- nothing.
+-- `frames::lines::frame` meets its contract: at each kind `frame` computes, and at none of them `frame-other` refuses.
+-- Assumes nothing.
 use mathlib.Core.Path.{sym, ap, _∙_}
 use borrow.Author.Needs.{needs}
 use Rattle.rules.specs.Frames.{fields, frame}
@@ -17,13 +17,15 @@ returns : tie.Need-returns
 unfolding frame
 returns c =
     let asked = c .before .before .args in
-    c .with-zero .ensures ∙ sym (ap (λ k. frame (fields k (asked .fields .a) (asked .fields .b))) (c .before .if1 .taken))
+    c .with-zero .ensures ∙ sym (ap (λ k. frame (fields k (asked .fields .a) (asked .fields .b)))
+    (c .before .if1 .taken))
 
 returns-2 : tie.Need-returns-2
 unfolding frame
 returns-2 c =
     let asked = c .before .before .before .args in
-    c .with-zero2 .ensures ∙ sym (ap (λ k. frame (fields k (asked .fields .a) (asked .fields .b))) (c .before .if2 .taken))
+    c .with-zero2 .ensures ∙ sym (ap (λ k. frame (fields k (asked .fields .a) (asked .fields .b)))
+    (c .before .if2 .taken))
 
 returns-3 : tie.Need-returns-3
 unfolding frame

@@ -1,4 +1,5 @@
--- `frames::lines::with_zero` meets its contract: each return opens the choice of `with-zero` by its test. Assumes nothing.
+-- `frames::lines::with_zero` meets its contract: each return opens the choice of `with-zero` by its test. Assumes
+-- nothing.
 use mathlib.Core.Path.{sym}
 use borrow.Author.Tests.{eq-eqb, ne-eqb}
 use Rattle.rules.specs.Frames.{with-zero}

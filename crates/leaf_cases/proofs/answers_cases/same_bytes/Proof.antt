@@ -1,5 +1,5 @@
--- `leaf_cases::answers_cases::same_bytes` meets its contract. The invariant: i is at most an answer's length. The measure is what is left of
--- that. Assumes nothing.
+-- `leaf_cases::answers_cases::same_bytes` meets its contract. The invariant: i is at most an answer's length. The
+-- measure is what is left of that. Assumes nothing.
 use Prim.Native.Nat.{_-_, _≤_}
 use borrow.Author.Needs.{needs}
 use Rattle.rules.specs.Limits.{answer-bytes}

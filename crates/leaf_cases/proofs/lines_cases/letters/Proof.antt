@@ -1,5 +1,5 @@
--- `leaf_cases::lines_cases::letters` meets its contract. The invariant: i is at most 18. The measure is what is left of that.
--- Assumes nothing.
+-- `leaf_cases::lines_cases::letters` meets its contract. The invariant: i is at most 18. The measure is what is left of
+-- that. Assumes nothing.
 use Prim.Native.Nat.{_-_, _≤_}
 use borrow.Author.Needs.{needs}
 use Rattle.leaf_cases.proofs.lines_cases.letters.Statement.{statement}

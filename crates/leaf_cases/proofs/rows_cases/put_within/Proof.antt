@@ -1,4 +1,5 @@
--- `leaf_cases::rows_cases::put_within` meets its contract: the test before the call is what the function asks. Assumes nothing.
+-- `leaf_cases::rows_cases::put_within` meets its contract: the test before the call is what the function asks. Assumes
+-- nothing.
 use Rattle.rules.specs.Table.{rows}
 use borrow.Author.Needs.{needs}
 use Rattle.rules.specs.Table.{rows}

@@ -1,4 +1,5 @@
--- `shadow::byte::leading` meets its contract: it looks its byte up in the table, whose entries are the rule's. Assumes nothing.
+-- `shadow::byte::leading` meets its contract: it looks its byte up in the table, whose entries are the rule's. Assumes
+-- nothing.
 use borrow.Author.Needs.{needs}
 use Rattle.shadow.proofs.Table.{entries, entry-leading}
 use Rattle.shadow.proofs.byte.leading.Statement.{statement}

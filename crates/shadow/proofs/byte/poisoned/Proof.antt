@@ -1,4 +1,5 @@
--- `shadow::byte::poisoned` meets its contract: `signed_byte` is the signed byte, and its test is the definition's. Assumes nothing.
+-- `shadow::byte::poisoned` meets its contract: `signed_byte` is the signed byte, and its test is the definition's.
+-- Assumes nothing.
 use mathlib.Core.Path.{ap, _∙_}
 use lib.IntN.{pos}
 use lib.Signed.{ltZ}

@@ -1,5 +1,5 @@
--- `shadow::byte::signed_byte` meets its contract: below 80 the byte is its own signed byte, and from 80 on it is the byte less 256.
--- Assumes nothing.
+-- `shadow::byte::signed_byte` meets its contract: below 80 the byte is its own signed byte, and from 80 on it is the
+-- byte less 256. Assumes nothing.
 use Prim.Native.Nat.{ℕ, suc, _-_, _≤_, _<_}
 use native.Mathlib.Omega.{arith}
 use mathlib.Core.Path.{_≡_, refl, sym, ap, subst, _∙_}
@@ -35,10 +35,14 @@ cast-result-2 : tie.Need-cast-result-2
 cast-result-2 c = search needs
 
 sub-result : tie.Need-sub-result
-sub-result c = subst (SFits w16) (sym (lowered (c .before .args .value) (c .if1 .left) (omega arith))) (wide _ (c .if1 .left) (omega arith))
+sub-result c =
+    subst (SFits w16) (sym (lowered (c .before .args .value) (c .if1 .left) (omega arith)))
+    (wide _ (c .if1 .left) (omega arith))
 
 cast-result-3 : tie.Need-cast-result-3
-cast-result-3 c = subst (SFits w8) (sym (read (c .before .args .value) (c .if1 .left) (omega arith))) (narrow _ (c .if1 .left) (omega arith))
+cast-result-3 c =
+    subst (SFits w8) (sym (read (c .before .args .value) (c .if1 .left) (omega arith)))
+    (narrow _ (c .if1 .left) (omega arith))
 
 returns : tie.Need-returns
 unfolding signed
