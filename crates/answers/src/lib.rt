@@ -1,4 +1,6 @@
 // Frames out: each answer in the paper's numbers, and a line's in the report's 13 bytes.
+#![tactic(auto)]
+
 ghost use Rattle.std.specs.Prelude.{◌≡◌, length};
 ghost use Rattle.rules.specs.Limits.{answer_bytes};
 ghost use Rattle.rules.specs.Answers.{reply, in_numbers, opening_status, call_in_numbers, call_status};

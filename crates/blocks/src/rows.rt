@@ -14,7 +14,7 @@ use rules::{Found, Row};
 
 // What one pass over the rows finds: the lowest live row that starts at an address, whether a
 // quarantined one does, how many are quarantined, what they weigh, and the one to evict.
-#[derive(Drop)]
+#[derive(Clone, Copy)]
 pub struct Seen {
     pub live: Found,
     pub again: bool,

@@ -17,7 +17,7 @@ pub fn rest(fields: &[u8]) -> &[u8] {
 }
 
 // The numbers read so far, and which of them the next digit goes to.
-#[derive(Drop)]
+#[derive(Clone, Copy)]
 struct Read {
     at: usize,
     values: [usize; 8],

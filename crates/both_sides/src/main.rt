@@ -1,5 +1,7 @@
 // Both sides of every limit of the paper, asked of the public calls alone. A line says in words what is asked, and then
 // what was answered and left in each buffer; the stored output is worked from the paper by hand.
+#![tactic(auto)]
+
 mod addresses;
 mod feeds;
 mod fields;
@@ -15,7 +17,7 @@ mod sizes;
 use cases::text;
 
 // What the cases of a section ask.
-#[derive(Drop)]
+#[derive(Clone, Copy)]
 pub enum Section {
     Openings,
     Feeds,

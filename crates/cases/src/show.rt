@@ -2,7 +2,7 @@
 use rules::Found;
 
 // Three numbers that are compared together: a status, a kind or region, and a value.
-#[derive(Drop)]
+#[derive(Clone, Copy)]
 pub struct Three(pub u64, pub u64, pub u64);
 
 pub fn begin(name: &[u8]) {

@@ -1,5 +1,7 @@
 // Evictions: every turn lessened, the oldest row of the quarantine evicted, and evictions until the rest weighs no more
 // than Q.
+#![tactic(auto)]
+
 ghost use Rattle.std.specs.Prelude.{◌≡◌, ◌-◌, ◌<◌};
 ghost use Rattle.rules.specs.Table.{rows};
 ghost use Rattle.rules.specs.Release.{settle};
@@ -10,7 +12,7 @@ use rules::Found;
 use rules::limits::{REDZONE_BYTE, ROW_NUMBERS, SIZE_COLUMN, START_COLUMN, TURN_COLUMN};
 
 // What the quarantine weighs, and the row to evict next.
-#[derive(Drop)]
+#[derive(Clone, Copy)]
 pub struct Held {
     pub weight: u64,
     pub oldest: Found,

@@ -1,2 +1,4 @@
 // Frames in: what a line asks.
+#![tactic(auto)]
+
 pub mod lines;

@@ -1,4 +1,6 @@
 // Text: hex digits read and written, numbers of up to 64 bits.
+#![tactic(auto)]
+
 ghost use Rattle.std.specs.Prelude.{◌≤◌, ◌<◌, ◌≡◌, length};
 ghost use Rattle.rules.specs.Lowest.{answered};
 ghost use Rattle.rules.specs.Hex.{digit_value, number, digit, digits};

@@ -1,5 +1,7 @@
 // The C interface: the public calls and the two maps under C names, an answer as its numbers, since an enum does not
 // cross to C. `include/kinkhost.h` declares them.
+#![tactic(auto)]
+
 ghost use Rattle.std.specs.Prelude.{◌≡◌};
 ghost use Rattle.rules.specs.Maps.{map32, map64, map_call};
 ghost use Rattle.watcher.specs.Calls.{OpenCall, FeedCall};

@@ -1,5 +1,7 @@
 // Every function below the public calls on both sides of each of its limits. The cases are the lines of the file
 // `stdin`, with what the paper says, worked by hand; a dot is a case that came out so.
+#![tactic(auto)]
+
 mod answers_cases;
 mod blocks_cases;
 mod frames_cases;

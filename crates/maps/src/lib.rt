@@ -1,4 +1,6 @@
 // The two published address maps: an address's region, and the address of its shadow byte.
+#![tactic(auto)]
+
 ghost use Rattle.std.specs.Prelude.{◌^◌, ◌<◌, ◌≡◌};
 ghost use Rattle.rules.specs.Answers.{map_status};
 ghost use Rattle.rules.specs.Maps.{map32, map64, region, mapped, map_call, Published};

@@ -1,6 +1,8 @@
 // The paper's night through the public calls: fed whole, a byte at a time, and with room for one answer at a time, what
 // was not taken offered again. Cutting changes nothing: the report, the buffers and the session come out as the paper
 // has them.
+#![tactic(auto)]
+
 use cases::{print, show};
 use rules::{Fed, Session};
 

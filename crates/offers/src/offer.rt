@@ -8,7 +8,7 @@ use speech::{explain, say};
 use tally::Tally;
 
 // Where a replay stands.
-#[derive(Drop)]
+#[derive(Clone, Copy)]
 pub struct Run {
     // whether there may be more to read
     pub going: bool,

@@ -1,4 +1,6 @@
 // The painter, lent only the part of the shadow that it may write, and what the whole shadow then is.
+#![tactic(auto)]
+
 ghost use Rattle.std.specs.Prelude.{◌≡◌, ◌+◌, ◌≤◌, min, length, replicate};
 ghost use Rattle.rules.specs.Put.{put, fill};
 ghost use Rattle.rules.specs.Grant.{granules, granted};

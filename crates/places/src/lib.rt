@@ -1,4 +1,6 @@
 // Where a block goes: the lowest place that keeps its redzones.
+#![tactic(auto)]
+
 ghost use Rattle.std.specs.Prelude.{◌≡◌};
 ghost use Rattle.rules.specs.Lowest.{answered};
 ghost use Rattle.rules.specs.Grant.{place};

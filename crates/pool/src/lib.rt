@@ -1,5 +1,7 @@
 // The lent shadow and table together: a grant, a release, an access, and what a frame does. Each asks for a session
 // that has passed the check behind 24.
+#![tactic(auto)]
+
 ghost use Rattle.std.specs.Prelude.{◌≤◌, ◌≡◌, length};
 ghost use Rattle.rules.specs.Limits.{most_granules};
 ghost use Rattle.rules.specs.Grant.{acted, counted, granted_row, grant};

@@ -1,1 +1,2 @@
 // No code: theorems over the definitions of `rules`, which are the contracts of every public call.
+#![tactic(auto)]

@@ -1,4 +1,6 @@
 // The quarantine: a row enters it, and a whole release, shadow and table together.
+#![tactic(auto)]
+
 ghost use Rattle.std.specs.Prelude.{◌≡◌};
 ghost use Rattle.rules.specs.Grant.{acted};
 ghost use Rattle.rules.specs.Release.{release};

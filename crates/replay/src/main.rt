@@ -1,5 +1,7 @@
 // Replays a trace: frames on standard input, the report on standard output as it goes, all else on standard error. Its
 // arguments are nine numbers, which `kinkhost` at the top of the repository gives.
+#![tactic(auto)]
+
 mod options;
 
 use offers::offer::Run;

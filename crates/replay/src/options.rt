@@ -3,7 +3,7 @@ ghost use Rattle.std.specs.Prelude.{◌≤◌};
 
 use rules::limits::ANSWER_BYTES;
 
-#[derive(Drop)]
+#[derive(Clone, Copy)]
 pub struct Options {
     // whether each argument is there and a number that fits
     pub right: bool,
@@ -21,7 +21,7 @@ pub struct Options {
 }
 
 // An argument that is a number, or none.
-#[derive(Drop)]
+#[derive(Clone, Copy)]
 struct Number {
     right: bool,
     value: u64,

@@ -1,6 +1,8 @@
 // The types that every layer shares: what a session holds, what a line asks, what is answered.
 // Plain data, passed by value. What C sees is `#[repr(C)]` and holds numbers alone, since an enum
 // does not cross to C; each enum has its numbers by a definition of `specs/`.
+#![tactic(auto)]
+
 pub mod limits;
 
 ghost use Rattle.std.specs.Prelude.{◌≡◌};
@@ -10,7 +12,7 @@ use limits::{EMPTY, ROW_NUMBERS};
 
 // A session: passed by value and handed back, or lent and changed in place. A closed one is all zeros.
 #[repr(C)]
-#[derive(Drop)]
+#[derive(Clone, Copy)]
 pub struct Session {
     // S, the granules of the arena and the bytes of its shadow
     pub granules: usize,
@@ -25,7 +27,7 @@ pub struct Session {
 }
 
 // A row of the table, whole.
-#[derive(Drop)]
+#[derive(Clone, Copy)]
 pub struct Row {
     // in granules
     pub start: u32,
@@ -56,7 +58,7 @@ pub fn zero_row() -> Row
 
 // A line's answer: the rows 00 to 09 of the paper's table. Each area has answers of its own, so that none can give
 // another's.
-#[derive(Drop)]
+#[derive(Clone, Copy)]
 pub enum Answer {
     // 00
     Done { value: u32 },
@@ -79,7 +81,7 @@ pub enum Answer {
 }
 
 // What a call answers that is handed a session.
-#[derive(Drop)]
+#[derive(Clone, Copy)]
 pub enum CallAnswer {
     // as a line does
     Answered(Answer),
@@ -88,7 +90,7 @@ pub enum CallAnswer {
 }
 
 // An opening's answer.
-#[derive(Drop)]
+#[derive(Clone, Copy)]
 pub enum OpeningAnswer {
     // 00
     Open,
@@ -99,7 +101,7 @@ pub enum OpeningAnswer {
 }
 
 // A map's answer.
-#[derive(Drop)]
+#[derive(Clone, Copy)]
 pub enum MapAnswer {
     // 00
     HasShadow,
@@ -110,7 +112,7 @@ pub enum MapAnswer {
 
 // The answer of a line or of a call, in the paper's numbers.
 #[repr(C)]
-#[derive(Drop)]
+#[derive(Clone, Copy)]
 pub struct Reply {
     pub status: u8,
     pub kind: u8,
@@ -118,7 +120,7 @@ pub struct Reply {
 }
 
 // What a search finds: the one number that it looks for, or nothing where there is none.
-#[derive(Drop)]
+#[derive(Clone, Copy)]
 pub enum Found {
     One(usize),
     Nothing,
@@ -126,14 +128,14 @@ pub enum Found {
 
 // What a range is found to be: good, or its first bad byte and the kind of that byte. The byte is
 // a whole number that does not wrap, so it has 64 bits.
-#[derive(Drop)]
+#[derive(Clone, Copy)]
 pub enum Verdict {
     Good,
     Bad { kind: u8, first: u64 },
 }
 
 // A line's fields as they are written, before anything is made of them.
-#[derive(Drop)]
+#[derive(Clone, Copy)]
 pub struct Fields {
     pub kind: u8,
     pub a: u32,
@@ -141,14 +143,14 @@ pub struct Fields {
 }
 
 // A line as text: its fields, or that it is not 18 hex digits.
-#[derive(Drop)]
+#[derive(Clone, Copy)]
 pub enum Line {
     Of(Fields),
     NotDigits,
 }
 
 // What a line asks, or the answer that refuses it.
-#[derive(Drop)]
+#[derive(Clone, Copy)]
 pub enum Frame {
     Grant { size: u32 },
     Release { address: u32 },
@@ -159,7 +161,7 @@ pub enum Frame {
 
 // What an opening hands back: the status 00, 21, 22 or 23, and a session, closed where refused.
 #[repr(C)]
-#[derive(Drop)]
+#[derive(Clone, Copy)]
 pub struct Opened {
     pub session: Session,
     pub status: u8,
@@ -167,7 +169,7 @@ pub struct Opened {
 
 // What a feed hands back: the status 00 or 24, the session, and how many bytes were taken and written.
 #[repr(C)]
-#[derive(Drop)]
+#[derive(Clone, Copy)]
 pub struct Fed {
     pub session: Session,
     pub status: u8,
@@ -177,7 +179,7 @@ pub struct Fed {
 
 // What a feed of a lent session hands back: a `Fed` without the session, which lies where it was lent.
 #[repr(C)]
-#[derive(Drop)]
+#[derive(Clone, Copy)]
 pub struct Counts {
     pub status: u8,
     pub taken: usize,
@@ -185,7 +187,7 @@ pub struct Counts {
 }
 
 // The regions of the published address maps.
-#[derive(Drop)]
+#[derive(Clone, Copy)]
 pub enum Region {
     Nowhere,
     LowMem,
@@ -197,7 +199,7 @@ pub enum Region {
 
 // A published map: what is added to an address / 8, and the last address of each region, in the
 // regions' order.
-#[derive(Drop)]
+#[derive(Clone, Copy)]
 pub struct Map {
     pub offset: u64,
     pub low_mem: u64,
@@ -209,7 +211,7 @@ pub struct Map {
 
 // What a map hands back: the status 00, 31 or 32, the region's number, and the shadow address.
 #[repr(C)]
-#[derive(Drop)]
+#[derive(Clone, Copy)]
 pub struct Mapped {
     pub status: u8,
     pub region: u8,

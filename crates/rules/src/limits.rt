@@ -81,7 +81,7 @@ pub const LINE_FEED: u8 = 0x0a;
 pub const NO_DIGIT: u8 = 16;
 
 // All of the above in one value, so that one proof ties them to the definitions.
-#[derive(Drop)]
+#[derive(Clone, Copy)]
 pub struct Limits {
     pub granule: usize,
     pub least_granules: usize,

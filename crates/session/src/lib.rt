@@ -1,4 +1,6 @@
 // The session: its limits, the check behind 24, and its unfinished line.
+#![tactic(auto)]
+
 ghost use Rattle.std.specs.Prelude.{◌≡◌};
 ghost use Rattle.rules.specs.Limits.{between, least_granules, most_granules, least_redzone, most_redzone};
 ghost use Rattle.rules.specs.Feed.{emptied, lengthened};

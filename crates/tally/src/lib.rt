@@ -1,4 +1,6 @@
 // What a report says in sum: its answers counted by number, the first line that was not done, and the verdict.
+#![tactic(auto)]
+
 ghost use Rattle.std.specs.Prelude.{◌≡◌};
 ghost use Rattle.tally.specs.Tally.{none, more, counted_as, status_at, counted, with_answer, with_report};
 ghost use Rattle.tally.specs.Tally.{verdict};
@@ -6,7 +8,7 @@ ghost use Rattle.tally.specs.Tally.{verdict};
 use rules::Found;
 use rules::limits::{ANSWER_BYTES, ANSWER_STATUS_END};
 
-#[derive(Drop)]
+#[derive(Clone, Copy)]
 pub struct Tally {
     pub lines: u64,
     // of the numbers 00 to 09

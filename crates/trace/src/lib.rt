@@ -1,4 +1,6 @@
 // A trace: one finished line, and a piece byte by byte, for a session that has passed the check behind 24.
+#![tactic(auto)]
+
 ghost use Rattle.std.specs.Prelude.{◌≡◌};
 ghost use Rattle.rules.specs.Feed.{finish};
 ghost use Rattle.rules.specs.Watcher.{watcher, state_of};

@@ -1,1 +1,2 @@
 // Rules for proofs by hand, and no code: `proofs/Walk.antt`.
+#![tactic(auto)]
