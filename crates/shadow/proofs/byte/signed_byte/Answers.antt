@@ -11,8 +11,7 @@ use borrow.Author.Rules.{rules}
 use borrow.Author.Tests.{lt-ltb}
 use Rattle.rules.specs.Shadow.{signed}
 use Rattle.rules.proofs.Shadow.{signed_from}
-use Rattle.shadow.proofs.byte.signed_byte.Statement.{statement}
-use Rattle.shadow.proofs.byte.signed_byte.Tie as tie
+use Rattle.shadow.proofs.byte.signed_byte.Goals as goal
 
 module _ (v : ℕ) (from : 128 ≤ v) (below : v < 256) where
   lowered : to_z w16 v -ℤ pos 256 ≡ negsuc (256 - suc v)
@@ -28,31 +27,22 @@ module _ (v : ℕ) (from : 128 ≤ v) (below : v < 256) where
   read : to_z w16 (of_z w16 (to_z w16 v -ℤ pos 256)) ≡ negsuc (256 - suc v)
   read = ap (λ z. to_z w16 (of_z w16 z)) lowered ∙ to_z-of_z wide
 
-cast-result : tie.Need-overflow-cast-result
-cast-result c = search rules
+pub overflow_sub-result : goal.overflow_sub-result
+overflow_sub-result c =
+    subst (SFits w16) (sym (lowered c.args.value c.if-value-lt128.false (omega arith)))
+    (wide _ c.if-value-lt128.false (omega arith))
 
-cast-result-2 : tie.Need-overflow-cast-result-2
-cast-result-2 c = search rules
+pub overflow_cast-result-else-value-lt128-2 : goal.overflow_cast-result-else-value-lt128-2
+overflow_cast-result-else-value-lt128-2 c =
+    subst (SFits w8) (sym (read c.args.value c.if-value-lt128.false (omega arith)))
+    (narrow _ c.if-value-lt128.false (omega arith))
 
-sub-result : tie.Need-overflow-sub-result
-sub-result c =
-    subst (SFits w16) (sym (lowered c.before.args.value c.if1.false (omega arith)))
-    (wide _ c.if1.false (omega arith))
-
-cast-result-3 : tie.Need-overflow-cast-result-3
-cast-result-3 c =
-    subst (SFits w8) (sym (read c.before.args.value c.if1.false (omega arith)))
-    (narrow _ c.if1.false (omega arith))
-
-returns : tie.Need-returns
+pub returns-then-value-lt128 : goal.returns-then-value-lt128
 unfolding signed
-returns c = refl
+returns-then-value-lt128 c = refl
 
-returns-2 : tie.Need-returns-2
-returns-2 c =
-    ap (λ z. to_z w8 (of_z w8 z)) (read c.before.args.value c.if1.false (omega arith))
-    ∙ to_z-of_z (narrow _ c.if1.false (omega arith))
-    ∙ sym (signed_from _ c.if1.false)
-
-pub signed-byte-spec : {M : Type 1} → statement M
-signed-byte-spec = tie.close (tie.spec cast-result cast-result-2 sub-result cast-result-3 returns returns-2)
+pub returns-else-value-lt128 : goal.returns-else-value-lt128
+returns-else-value-lt128 c =
+    ap (λ z. to_z w8 (of_z w8 z)) (read c.args.value c.if-value-lt128.false (omega arith))
+    ∙ to_z-of_z (narrow _ c.if-value-lt128.false (omega arith))
+    ∙ sym (signed_from _ c.if-value-lt128.false)
