@@ -39,9 +39,8 @@ loop-i-init c = record { within = omega arith; below = omega arith; on = refl }
 pub returns-then-value-ge-NO_DIGIT : goal.returns-then-value-ge-NO_DIGIT
 unfolding number
 returns-then-value-ge-NO_DIGIT c =
-    let turn = c in
     sym (ap answered
-    (turn.loop-i.invariant.on ∙ stop _ _ _ turn.loop-i-test.true
+    (c.loop-i.invariant.on ∙ stop _ _ _ c.loop-i-test.true
     (omega (arith, c.digit_value-value.ensures))))
 
 pub overflow_mul-said : goal.overflow_mul-said
@@ -52,17 +51,16 @@ overflow_add-said c = omega (arith, small c.loop-i.invariant.below (omega arith)
 
 pub loop-i-preserved : goal.loop-i-preserved
 loop-i-preserved c =
-    let turn = c in
-    let said : ℕ = turn.loop-i.said in
-    let i : ℕ = turn.loop-i.i in
-    let digits : List ℕ = turn.args.digits.now in
+    let said : ℕ = c.loop-i.said in
+    let i : ℕ = c.loop-i.i in
+    let digits : List ℕ = c.args.digits.now in
     let value : c.digit_value-value.result ≡ digit_value (get_or digits i 0) = c.digit_value-value.ensures in
     record {
       within = omega arith;
       below = omega (arith, pow-succ' 16 i, ap (λ k. 16 ^ k) (add-one i));
       on =
-          turn.loop-i.invariant.on
-          ∙ step said digits i turn.loop-i-test.true (omega arith)
+          c.loop-i.invariant.on
+          ∙ step said digits i c.loop-i-test.true (omega arith)
           ∙ ap (λ v. number_on (16 * said + v) (drop (i + 1) digits)) (sym value);
     }
 

@@ -10,5 +10,4 @@ with-status region shadow status = record { status = status; region = region; sh
 
 pub returns : goal.returns
 returns c =
-    let start = c in
-    ap (with-status start.args.region start.args.shadow) c.status_of.ensures
+    ap (with-status c.args.region c.args.shadow) c.status_of.ensures

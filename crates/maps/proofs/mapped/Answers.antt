@@ -9,35 +9,29 @@ use Rattle.maps.proofs.mapped.Goals as goal
 pub returns-in-Nowhere : goal.returns-in-Nowhere
 unfolding map_status map_answer region_number map_shadow
 returns-in-Nowhere c =
-    let told = c in
-    c.handed.ensures ∙ sym (ap (λ r. mapped r told.args.shadow) told.in-Nowhere.is)
+    c.handed.ensures ∙ sym (ap (λ r. mapped r c.args.shadow) c.in-Nowhere.is)
 
 pub returns-in-LowMem : goal.returns-in-LowMem
 unfolding map_status map_answer region_number map_shadow
 returns-in-LowMem c =
-    let told = c in
-    c.handed-in-LowMem.ensures ∙ sym (ap (λ r. mapped r told.args.shadow) told.in-LowMem.is)
+    c.handed-in-LowMem.ensures ∙ sym (ap (λ r. mapped r c.args.shadow) c.in-LowMem.is)
 
 pub returns-in-LowShadow : goal.returns-in-LowShadow
 unfolding map_status map_answer region_number map_shadow
 returns-in-LowShadow c =
-    let told = c in
-    c.handed-in-LowShadow.ensures ∙ sym (ap (λ r. mapped r told.args.shadow) told.in-LowShadow.is)
+    c.handed-in-LowShadow.ensures ∙ sym (ap (λ r. mapped r c.args.shadow) c.in-LowShadow.is)
 
 pub returns-in-ShadowGap : goal.returns-in-ShadowGap
 unfolding map_status map_answer region_number map_shadow
 returns-in-ShadowGap c =
-    let told = c in
-    c.handed-in-ShadowGap.ensures ∙ sym (ap (λ r. mapped r told.args.shadow) told.in-ShadowGap.is)
+    c.handed-in-ShadowGap.ensures ∙ sym (ap (λ r. mapped r c.args.shadow) c.in-ShadowGap.is)
 
 pub returns-in-HighShadow : goal.returns-in-HighShadow
 unfolding map_status map_answer region_number map_shadow
 returns-in-HighShadow c =
-    let told = c in
-    c.handed-in-HighShadow.ensures ∙ sym (ap (λ r. mapped r told.args.shadow) told.in-HighShadow.is)
+    c.handed-in-HighShadow.ensures ∙ sym (ap (λ r. mapped r c.args.shadow) c.in-HighShadow.is)
 
 pub returns-in-HighMem : goal.returns-in-HighMem
 unfolding map_status map_answer region_number map_shadow
 returns-in-HighMem c =
-    let told = c in
-    c.handed-in-HighMem.ensures ∙ sym (ap (λ r. mapped r told.args.shadow) told.in-HighMem.is)
+    c.handed-in-HighMem.ensures ∙ sym (ap (λ r. mapped r c.args.shadow) c.in-HighMem.is)

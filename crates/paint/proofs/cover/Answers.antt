@@ -1,0 +1,15 @@
+use Prim.Native.Nat.{◌-◌}
+use native.Mathlib.Omega.{arith}
+use lib.ListN.{length}
+use borrow.Author.Rules.{rules}
+use Rattle.rules.proofs.Put.{Filled, filled_none, filled_more, filled_all}
+use Rattle.paint.proofs.cover.Goals as goal
+
+pub loop-i-init : goal.loop-i-init
+loop-i-init c = filled_none c.args.value c.args.part.now
+
+pub loop-i-preserved : goal.loop-i-preserved
+loop-i-preserved c = filled_more c.loop-i.invariant (omega arith)
+
+pub returns : goal.returns
+returns c = filled_all c.loop-i.invariant (omega arith)
