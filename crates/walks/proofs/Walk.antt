@@ -13,7 +13,7 @@ use mathlib.Core.Option.{some}
 use mathlib.Core.List.{List, [], ◌∷◌}
 use Prim.Native.Nat.{ℕ, zero, ◌+◌, ◌-◌, ◌*◌}
 use seplogic.Ra.Ura.{Ura}
-use seplogic.Ra.TreeShare.{full_share}
+use base.Fraction.{full_share}
 use lib.Dec.{T}
 use lib.ListN.{length}
 use mir.Syntax.{Sym, Ty, Tys, ty_struct, place, deref, field, copy, rv_opd, addr_of, aggregate, Opd as Operand}
