@@ -1,6 +1,5 @@
 -- `hex::digit` meets its contract: each return opens the choice of `digit` by the test that led there. Assumes nothing.
 use mathlib.Core.Path.{sym}
-use borrow.Author.Rules.{rules}
 use borrow.Author.Tests.{lt-ltb, le-ltb}
 use Rattle.rules.specs.Hex.{digit}
 use Rattle.rules.proofs.Tests.{if_true, if_false}

@@ -1,8 +1,7 @@
-use Prim.Native.Nat.{ℕ, suc, ◌+◌, ◌-◌, ◌*◌, ◌^◌, ◌≤◌, ◌<◌}
+use Prim.Native.Nat.{ℕ, suc, ◌+◌, ◌*◌, ◌^◌, ◌≤◌, ◌<◌}
 use native.Mathlib.Nat.{lt_of_lt_of_le, pow-succ', pow-le-pow_right}
 use native.Mathlib.Numerals.{add-one}
 use native.Mathlib.Omega.{arith}
-use borrow.Author.Rules.{rules}
 use mathlib.Core.Path.{◌≡◌, refl, sym, ap, ◌∙◌}
 use mathlib.Core.Option.{none}
 use mathlib.Core.List.{List}
@@ -12,7 +11,6 @@ use Rattle.rules.specs.Limits.{no_digit}
 use Rattle.rules.specs.Lowest.{answered}
 use Rattle.rules.specs.Hex.{digit_value, number_on, number_nil, number_cons, number_stop, number}
 use Rattle.rules.proofs.Hex.{value_some, value_none}
-use Rattle.hexadecimal.proofs.number.Invariants.{Read}
 use Rattle.hexadecimal.proofs.number.Goals as goal
 
 -- the digit at i is read on

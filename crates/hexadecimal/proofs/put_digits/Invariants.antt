@@ -1,13 +1,10 @@
 -- `hex::put_digits` meets its contract. The loop's invariant: of the digits, those from `i` on are written, and `left`
 -- is the number without them. The measure is `i`. Assumes nothing.
-use Prim.Native.Nat.{ℕ, suc, ◌-◌, ◌/◌, ◌%◌, ◌^◌, ◌≤◌, ◌<◌}
-use native.Mathlib.Nat.{div-div-eq-div-mul, div-one, mul_comm, mod-lt, pow-succ', sub_self}
-use native.Mathlib.Omega.{arith}
-use mathlib.Core.Path.{◌≡◌, refl, sym, ap, ap₂, ◌∙◌}
-use mathlib.Core.List.{List, ◌∷◌}
-use lib.ListN.{length, drop, set, length-set}
-use lib.Seq.{drop-length, drop-cons, drop-set-lt, get_or-set_same}
-use Rattle.rules.specs.Hex.{digit, digits, digits_zero, digits_suc}
+use Prim.Native.Nat.{ℕ, ◌-◌, ◌/◌, ◌^◌, ◌≤◌}
+use mathlib.Core.Path.{◌≡◌}
+use mathlib.Core.List.{List}
+use lib.ListN.{length, drop}
+use Rattle.rules.specs.Hex.{digits}
 use Rattle.hexadecimal.proofs.put_digits.Given as goal
 
 pub record Written (size number : ℕ) (part : List ℕ) (left i : ℕ) : Type 0 where

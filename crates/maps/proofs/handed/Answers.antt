@@ -1,7 +1,6 @@
 -- `maps::handed` meets its contract. Assumes nothing.
 use Prim.Native.Nat.{ℕ}
 use mathlib.Core.Path.{ap}
-use borrow.Author.Rules.{rules}
 use Rattle.rules.specs.declared.Mapped.{Mapped}
 use Rattle.maps.proofs.handed.Goals as goal
 

@@ -1,7 +1,6 @@
 -- `maps::mapped` meets its contract: in each arm the region is the arm's own, at which the definitions compute. Assumes
 -- nothing.
 use mathlib.Core.Path.{sym, ap, ◌∙◌}
-use borrow.Author.Rules.{rules}
 use Rattle.rules.specs.Answers.{map_status}
 use Rattle.rules.specs.Maps.{map_answer, region_number, map_shadow, mapped}
 use Rattle.maps.proofs.mapped.Goals as goal

@@ -1,6 +1,5 @@
 -- `maps::status_of` meets its contract: in each arm the answer is the arm's own. Assumes nothing.
 use mathlib.Core.Path.{sym, ap}
-use borrow.Author.Rules.{rules}
 use Rattle.rules.specs.Answers.{map_status}
 use Rattle.maps.proofs.status_of.Goals as goal
 

@@ -1,7 +1,6 @@
 -- `maps::through` meets its contract: the offset leaves room for an address / 8, and what `mapped` hands back of the
 -- region that `region_of` finds is what `map_call` says of that region. Assumes nothing.
 use mathlib.Core.Path.{sym, ◌∙◌}
-use borrow.Author.Rules.{rules}
 use Rattle.rules.specs.Maps.{shadow_address}
 use Rattle.rules.proofs.Maps.{map_call_at}
 use Rattle.maps.proofs.through.Goals as goal

@@ -4,7 +4,6 @@ use Prim.Native.Nat.{◌/◌, ◌%◌}
 use native.Mathlib.Omega.{arith}
 use mathlib.Core.Path.{ap, ◌∙◌}
 use lib.ListN.{replicate, set}
-use borrow.Author.Rules.{rules}
 use Rattle.rules.specs.Limits.{granule}
 use Rattle.rules.proofs.Grant.{granules_enough, granted_even, granted_rest}
 use Rattle.paint.proofs.cover_granted.Goals as goal

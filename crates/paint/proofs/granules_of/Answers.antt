@@ -1,6 +1,5 @@
 -- `paint::granules_of` meets its contract: its sum has 64 bits. Assumes nothing.
 use mathlib.Core.Path.{refl}
-use borrow.Author.Rules.{rules}
 use Rattle.rules.specs.Grant.{granules}
 use Rattle.paint.proofs.granules_of.Goals as goal
 

@@ -1,10 +1,7 @@
-use Prim.Native.Nat.{◌-◌}
 use native.Mathlib.Omega.{arith}
-use mathlib.Core.Path.{◌≡◌, refl, sym, ap}
-use lib.ListN.{length}
-use borrow.Author.Rules.{rules}
+use mathlib.Core.Path.{refl, sym, ap}
 use Rattle.rules.specs.Lowest.{answered}
-use Rattle.places.proofs.Sought.{Sought, Windowed, sought_none, sought_all, windowed_none, windowed_next}
+use Rattle.places.proofs.Sought.{sought_none, sought_all, windowed_none, windowed_next}
 use Rattle.places.proofs.Sought.{windowed_all, windowed_past}
 use Rattle.places.proofs.place.Goals as goal
 

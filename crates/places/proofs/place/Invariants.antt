@@ -2,13 +2,9 @@
 -- start; over a window: the start stands, and each byte of the window so far is fa. The measures are the granules after
 -- the start, and the bytes that are left of the window. Assumes nothing.
 use Prim.Native.Nat.{◌-◌}
-use native.Mathlib.Omega.{arith}
-use mathlib.Core.Path.{◌≡◌, refl, sym, ap}
+use mathlib.Core.Path.{◌≡◌}
 use lib.ListN.{length}
-use borrow.Author.Rules.{rules}
-use Rattle.rules.specs.Lowest.{answered}
-use Rattle.places.proofs.Sought.{Sought, Windowed, sought_none, sought_all, windowed_none, windowed_next}
-use Rattle.places.proofs.Sought.{windowed_all, windowed_past}
+use Rattle.places.proofs.Sought.{Sought, Windowed}
 use Rattle.places.proofs.place.Given as goal
 
 abbrev pub invariant-loop-passed : goal.invariant-loop-passed

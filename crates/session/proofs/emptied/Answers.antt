@@ -1,5 +1,4 @@
 -- `session::emptied` meets its contract: a fresh session of the same numbers. Assumes nothing.
-use borrow.Author.Rules.{rules}
 use Rattle.rules.specs.Feed.{emptied}
 use Rattle.session.proofs.emptied.Goals as goal
 

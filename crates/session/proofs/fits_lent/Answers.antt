@@ -6,10 +6,9 @@ use mathlib.Core.Path.{sym, ap, ◌∙◌}
 use mathlib.Core.Bool.{◌&&◌}
 use lib.ListN.{length}
 use lib.Dec.{eqb}
-use borrow.Author.Rules.{rules}
 use Rattle.rules.specs.Limits.{least_rows, most_rows, row_numbers}
 use Rattle.rules.specs.Watcher.{lent_lengths}
-use Rattle.rules.specs.Calls.{fits_lent, fits_session}
+use Rattle.rules.specs.Calls.{fits_session}
 use Rattle.rules.proofs.Tests.{between_is}
 use Rattle.rules.proofs.Calls.{within_true}
 use Rattle.session.proofs.fits_lent.Goals as goal

@@ -1,7 +1,6 @@
 -- `session::lengthened` meets its contract. Assumes nothing.
 use native.Mathlib.Omega.{arith}
 use mathlib.Core.Path.{sym}
-use borrow.Author.Rules.{rules}
 use Rattle.rules.proofs.Feed.{lengthened_short, lengthened_long}
 use Rattle.session.proofs.lengthened.Goals as goal
 

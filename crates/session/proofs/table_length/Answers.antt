@@ -3,7 +3,6 @@ use Prim.Native.Nat.{◌%◌}
 use mathlib.Core.Path.{ap}
 use mathlib.Core.Bool.{◌&&◌}
 use lib.Dec.{eqb}
-use borrow.Author.Rules.{rules}
 use Rattle.rules.specs.Limits.{row_numbers}
 use Rattle.rules.specs.Calls.{table_length}
 use Rattle.session.proofs.table_length.Goals as goal

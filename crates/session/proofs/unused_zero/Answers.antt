@@ -1,9 +1,5 @@
-use Prim.Native.Nat.{◌-◌}
 use native.Mathlib.Omega.{arith}
-use mathlib.Core.Path.{◌≡◌, refl, sym, ◌∙◌}
-use borrow.Author.Rules.{rules}
-use Rattle.rules.specs.Limits.{frame_digits}
-use Rattle.rules.specs.Calls.{unused_zero}
+use mathlib.Core.Path.{sym, ◌∙◌}
 use Rattle.rules.proofs.Calls.{unused_end, unused_here, unused_next}
 use Rattle.session.proofs.unused_zero.Goals as goal
 

@@ -1,7 +1,6 @@
 -- `session::within_limits` meets its contract: its five tests are the definition's. Assumes nothing.
 use mathlib.Core.Path.{◌≡◌, refl, ap₂}
 use mathlib.Core.Bool.{Bool, ◌&&◌}
-use borrow.Author.Rules.{rules}
 use Rattle.rules.specs.Calls.{within_limits}
 use Rattle.session.proofs.within_limits.Goals as goal
 

@@ -4,7 +4,6 @@ use Prim.Native.Nat.{ℕ}
 use native.Mathlib.Omega.{arith}
 use mathlib.Core.Path.{◌≡◌, sym, ap, ◌∙◌}
 use mathlib.Core.Option.{Option, none, some}
-use borrow.Author.Rules.{rules}
 use Rattle.rules.specs.declared.Found.{Found}
 use Rattle.rules.specs.declared.Found.TheVariants.{One, Nothing}
 use Rattle.rules.specs.declared.Line.TheVariants.{Of}

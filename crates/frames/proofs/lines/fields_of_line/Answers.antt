@@ -1,7 +1,6 @@
 -- `frames::lines::fields_of_line` meets its contract: a line of another length has no fields, and one of 18 bytes has
 -- those of its digits. Assumes nothing.
 use mathlib.Core.Path.{sym, ◌∙◌}
-use borrow.Author.Rules.{rules}
 use borrow.Author.Tests.{eq-eqb}
 use Rattle.rules.specs.Frames.{fields_of_line}
 use Rattle.rules.proofs.Tests.{if_true}

@@ -1,7 +1,6 @@
 -- `frames::lines::frame` meets its contract: at each kind `frame` computes, and at none of them `frame_other` refuses.
 -- Assumes nothing.
 use mathlib.Core.Path.{sym, ap, ◌∙◌}
-use borrow.Author.Rules.{rules}
 use Rattle.rules.specs.Frames.{fields, frame}
 use Rattle.rules.proofs.Frames.{frame_other}
 use Rattle.frames.proofs.lines.frame.Goals as goal

@@ -1,7 +1,6 @@
 -- `frames::lines::frame_of_line` meets its contract: a line with fields asks what they ask, and any other is refused.
 -- Assumes nothing.
 use mathlib.Core.Path.{sym, ap, ◌∙◌}
-use borrow.Author.Rules.{rules}
 use Rattle.rules.specs.Frames.{asked, frame_of_line}
 use Rattle.frames.proofs.lines.frame_of_line.Goals as goal
 

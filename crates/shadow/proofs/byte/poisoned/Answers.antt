@@ -6,7 +6,6 @@ use lib.Signed.{lt_z}
 use mir.Syntax.{w8}
 use mir.Val.{to_z, of_z}
 use mir.Facts.{of_z-to_z}
-use borrow.Author.Rules.{rules}
 use Rattle.rules.specs.Shadow.{signed, negative}
 use Rattle.shadow.proofs.byte.poisoned.Goals as goal
 

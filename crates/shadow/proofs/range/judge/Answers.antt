@@ -1,8 +1,6 @@
-use Prim.Native.Nat.{◌+◌, ◌-◌}
 use native.Mathlib.Omega.{arith}
 use mathlib.Core.Path.{sym}
-use borrow.Author.Rules.{rules}
-use Rattle.shadow.proofs.Walked.{Walked, walked_none, walked_all, walked_outside, walked_poisoned, walked_next}
+use Rattle.shadow.proofs.Walked.{walked_none, walked_all, walked_outside, walked_poisoned, walked_next}
 use Rattle.shadow.proofs.range.judge.Goals as goal
 
 pub loop-byte-init : goal.loop-byte-init
