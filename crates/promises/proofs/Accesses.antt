@@ -24,7 +24,7 @@ use Rattle.rules.proofs.Tests.{by_found, by_order, by_test}
 use Rattle.rules.proofs.Shadow.{first_bad_some, first_bad_none, not_inside, kind_inside, kind_outside}
 use Rattle.rules.proofs.Grant.{granules_enough, granules_least, granted_last}
 use Rattle.rules.proofs.Refusals.{access_good, access_bad}
-use Rattle.promises.specs.History.{Exchange, asks, status_of, kind_of, value_of, Block, block, has_byte, lies_in}
+use Rattle.promises.specs.History.{Exchange, status_of, kind_of, value_of, Block, block, has_byte, lies_in}
 use Rattle.promises.specs.History.{others, latest, held}
 use Rattle.promises.specs.History.{seeks, Granted, Released, did, events}
 use Rattle.promises.specs.History.{History, happens, happen, heard, heard_all}

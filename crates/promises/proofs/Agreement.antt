@@ -1,22 +1,20 @@
 -- The invariant in other words: what stands agrees with its history, and what agrees stands. Assumes nothing.
-use Prim.Native.Nat.{ℕ, ◌+◌, ◌*◌, ◌≤◌, ◌<◌, ◌-◌}
+use Prim.Native.Nat.{ℕ, ◌+◌, ◌≤◌, ◌<◌}
 use native.Mathlib.Omega.{arith}
-use mathlib.Core.Path.{◌≡◌, refl, sym, ap, subst, ◌∙◌}
-use mathlib.Core.Logic.{◌≢◌, ◌⊎◌, inl, inr, ⊎_elim}
+use mathlib.Core.Path.{◌≡◌, refl, sym, subst, ◌∙◌}
+use mathlib.Core.Logic.{◌⊎◌, inl, inr, ⊎_elim}
 use mathlib.Core.Bool.{true, false}
 use mathlib.Core.List.Memᴰ
 use mathlib.Core.List.{List, ◌++◌}
-use lib.ListN.{length, get_or, length-append}
-use Rattle.rules.specs.Limits.{granule, live, quarantined}
-use Rattle.rules.specs.Table.{rows, start, size, state}
-use Rattle.rules.specs.Grant.{granules, granted}
+use lib.ListN.{length, length-append}
+use Rattle.rules.specs.Table.{start}
 use Rattle.rules.proofs.Table.{row_of_zeros, zeros_of_row}
 use Rattle.rules.proofs.Grant.{granules_enough}
 use Rattle.promises.specs.History.{Block, has_byte, History, latest, held}
-use Rattle.promises.specs.Rows.{past, Apart, HeldRow, block_of, in_use, drawn_byte, drawn}
-use Rattle.promises.specs.Agreement.{ShapedAs, SeparatedIn, RowsAre, QuarantinedIn, AgreesWith}
+use Rattle.promises.specs.Rows.{past, Apart, block_of, in_use}
+use Rattle.promises.specs.Agreement.{ShapedAs, SeparatedIn, RowsAre, AgreesWith}
 use Rattle.promises.proofs.Blocks.{has_byte_true, has_byte_not}
-use Rattle.promises.proofs.Laid.{ends, Off, Laid}
+use Rattle.promises.proofs.Laid.{ends, Laid}
 use Rattle.promises.proofs.Standing.{in_use_all, in_use_fewer}
 use Rattle.promises.proofs.Queue.{queue_row, queue_block}
 use Rattle.promises.proofs.Drawn.{shadow_drawn, drawn_laid}

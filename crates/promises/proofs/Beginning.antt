@@ -1,13 +1,13 @@
 -- Beginnings: a beginning has the invariant, and so it holds after every replay and at the moment at which a line is
 -- answered; an opening is a beginning; what a text leaves is a beginning again; and what was in the buffers that were
 -- lent to an opening does not show. Assumes nothing.
-use Prim.Native.Nat.{ℕ, ◌*◌, ◌/◌, ◌≤◌, ◌<◌}
+use Prim.Native.Nat.{ℕ, ◌/◌, ◌<◌}
 use native.Mathlib.Omega.{arith}
 use mathlib.Core.Path.{◌≡◌, refl, sym, ap, subst, ◌∙◌}
 use mathlib.Core.Logic.{◌≢◌}
 use mathlib.Core.Bool.{true}
 use mathlib.Core.List.{List, []}
-use lib.ListN.{length, replicate, length-replicate}
+use lib.ListN.{length, replicate}
 use Rattle.rules.specs.Limits.{row_numbers, least_granules, most_granules, least_redzone, most_redzone, between}
 use Rattle.rules.specs.Limits.{state_column, empty, live, quarantined, redzone_byte}
 use Rattle.rules.specs.Table.{rows, state}
@@ -21,7 +21,7 @@ use Rattle.rules.proofs.Calls.{lent_is, run_lent, open_bad_shadow, open_bad_redz
 use Rattle.rules.proofs.Calls.{opened_with, open_done, open_lent}
 use Rattle.promises.specs.History.{Exchange, History, nothing_yet, latest}
 use Rattle.promises.specs.Agreement.{AgreesWith}
-use Rattle.promises.specs.Replay.{Idle, Begins, Replay, session, ran, Line, history, happened}
+use Rattle.promises.specs.Replay.{Replay, session, ran, Line, history, happened}
 use Rattle.promises.specs.Replay.{Opening, opened, Openings, BeginsAgain, SameReport}
 use Rattle.promises.proofs.Replay.{Moment, idle_lent, replay_has, moment}
 use Rattle.promises.proofs.Kept.{zero_column, laid_opening}

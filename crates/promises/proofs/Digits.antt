@@ -11,7 +11,6 @@ use Rattle.rules.specs.Shadow.{first_bad}
 use Rattle.rules.specs.Answers.{in_numbers, status}
 use Rattle.rules.specs.Grant.{counted, granules, grant_at, grant}
 use Rattle.rules.specs.Release.{Pool, quarantine_row, release_row, release}
-use Rattle.rules.specs.Frames.{frame}
 use Rattle.rules.specs.Feed.{State, act_line}
 use Rattle.rules.specs.Watcher.{access, act, watcher}
 use Rattle.rules.specs.Calls.{LentState}

@@ -18,7 +18,7 @@ use Rattle.rules.specs.Release.{release, Pool}
 use Rattle.rules.specs.Hex.{digit, digits, digits_zero, digits_suc, written, written_nil, written_cons}
 use Rattle.rules.specs.Frames.{fields, frame, with_zero, frame_of_line, answer_line, line_of}
 use Rattle.rules.specs.Feed.{State, no_bytes, emptied, act_line, finish, hold, after, run, run_nil}
-use Rattle.rules.specs.Watcher.{act, watcher, state_of, outcome}
+use Rattle.rules.specs.Watcher.{act, watcher, outcome}
 use Rattle.rules.specs.Calls.{as_line}
 use Rattle.rules.proofs.Put.{Each}
 use Rattle.rules.proofs.Hex.{length_written}
@@ -26,7 +26,6 @@ use Rattle.rules.proofs.Frames.{fields_written, line_asks, frame_grant, frame_re
 use Rattle.rules.proofs.Frames.{with_zero_is, line_whole}
 use Rattle.rules.proofs.Feed.{SameNumbers, Quiet, run_append, run_numbers, run_quiet}
 use Rattle.rules.proofs.Calls.{grant_as_frame, release_as_frame, access_as_frame}
-use Rattle.promises.specs.Replay.{Idle}
 use Rattle.promises.specs.Direct.{told_as, DirectCalls}
 use Rattle.promises.proofs.Lines.{digit_no_feed, Spells, spells_none, spells_more, spells_asks}
 use Rattle.promises.proofs.Replay.{run_feed, run_byte}

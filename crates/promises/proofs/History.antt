@@ -5,16 +5,15 @@ use native.Mathlib.Decide.{ℕ_discrete}
 use mathlib.Core.Path.{◌≡◌, refl, sym, ap, ap₂, subst, ◌∙◌}
 use mathlib.Core.Logic.{◌≢◌, ⊎_elim}
 use mathlib.Core.Bool.{Bool, true, false, true≢false}
-use mathlib.Core.Option.{Option, none, some, none-ne-some, some-injective}
+use mathlib.Core.Option.{Option, none, some}
 use mathlib.Core.List.{List, [], ◌∷◌, ◌++◌}
 use mathlib.Core.List.Memᴰ
 use lib.Dec.{eqb}
 use borrow.Author.Tests.{eqb-true, eq-eqb, ne_eqb}
 use Rattle.rules.specs.declared.Answer.{Answer}
 use Rattle.rules.specs.declared.Frame.{Frame}
-use Rattle.rules.specs.declared.Frame.TheVariants.{Grant, Release, Read, Write, Refused}
+use Rattle.rules.specs.declared.Frame.TheVariants.{Release}
 use Rattle.rules.specs.Answers.{in_numbers, status}
-use Rattle.rules.specs.Grant.{counted}
 use Rattle.rules.proofs.Tests.{by_found, by_test, if_false, if_true}
 use Rattle.promises.specs.History.{Exchange, asks, status_of, value_of, Block, block, has_byte, lies_in, others}
 use Rattle.promises.specs.History.{Sought, nothing_sought, block_at, sought_by, seeks}

@@ -1,21 +1,20 @@
 -- The invariant: what stands in shadow and table is what the history says, and every byte of a text keeps it. Assumes
 -- nothing.
-use Prim.Native.Nat.{ℕ, ◌*◌, ◌/◌, ◌≤◌, ◌<◌}
+use Prim.Native.Nat.{ℕ, ◌<◌}
 use native.Mathlib.Omega.{arith}
 use mathlib.Core.Path.{◌≡◌, refl, sym, ap, subst, ◌∙◌}
-use mathlib.Core.Logic.{◌≢◌, inl, inr, ⊎_elim}
+use mathlib.Core.Logic.{inl, inr, ⊎_elim}
 use mathlib.Core.List.Memᴰ
-use mathlib.Core.List.{List, [], ◌∷◌, ◌++◌}
-use lib.ListN.{length, replicate, length-replicate, length-append}
+use mathlib.Core.List.{List, ◌∷◌, ◌++◌}
+use lib.ListN.{length, length-append}
 use borrow.Author.Tests.{eqb-true}
 use Rattle.rules.specs.declared.Session.{Session}
 use Rattle.rules.specs.declared.Answer.{Answer}
 use Rattle.rules.specs.declared.Answer.TheVariants.{Done}
 use Rattle.rules.specs.declared.Frame.{Frame}
 use Rattle.rules.specs.declared.Frame.TheVariants.{Grant, Release, Read, Write, Refused}
-use Rattle.rules.specs.Limits.{granule, row_numbers, least_redzone, most_redzone, empty, live, quarantined}
-use Rattle.rules.specs.Limits.{redzone_byte}
-use Rattle.rules.specs.Table.{rows, state, start, is_empty}
+use Rattle.rules.specs.Limits.{empty, live, quarantined}
+use Rattle.rules.specs.Table.{rows, state, is_empty}
 use Rattle.rules.specs.Answers.{in_numbers, status}
 use Rattle.rules.specs.Grant.{Acted, unchanged, counted, granules, grant_at, grant}
 use Rattle.rules.specs.Release.{Pool, quarantine_row, settle, release_row, release}
@@ -28,7 +27,7 @@ use Rattle.rules.proofs.Grant.{counted_least, place_some, empty_row_some, by_gra
 use Rattle.rules.proofs.Release.{StartsAt, row_at_some, by_release}
 use Rattle.rules.proofs.Feed.{SameNumbers, lengthened_numbers}
 use Rattle.rules.proofs.Watcher.{act_lengths}
-use Rattle.promises.specs.History.{Block, at, sought_by, nothing_sought, Released, grants_at, releases_at, did}
+use Rattle.promises.specs.History.{Block, at, sought_by, nothing_sought, grants_at, releases_at, did}
 use Rattle.promises.specs.History.{History, happens, happen, latest, held}
 use Rattle.promises.specs.Rows.{◌∈◌, HeldRow, block_of, RowOf, in_use}
 use Rattle.promises.proofs.History.{told, told_done, told_nothing, did_release, release_seeks_nothing}

@@ -4,14 +4,14 @@ use Prim.Native.Nat.{ℕ, zero, suc, ◌+◌, ◌-◌, ◌*◌, ◌/◌, ◌≤�
 use native.Mathlib.Omega.{arith}
 use mathlib.Core.Path.{◌≡◌, refl, sym, ap, ap₂, subst, ◌∙◌}
 use mathlib.Core.Logic.{◌≢◌, ◌⊎◌, inl, inr, ⊎_elim}
-use mathlib.Core.List.{List, [], ◌∷◌}
+use mathlib.Core.List.{List}
 use lib.ListN.{length, get_or, replicate, length-replicate, get_or-replicate}
 use Rattle.rules.specs.Limits.{granule, start_column, size_column, state_column, turn_column, row_numbers}
-use Rattle.rules.specs.Limits.{redzone_byte, released_byte, empty, live, quarantined}
+use Rattle.rules.specs.Limits.{redzone_byte, released_byte, empty, quarantined}
 use Rattle.rules.specs.Put.{put}
 use Rattle.rules.specs.Table.{rows, column, start, size, state, numbers, put_row}
 use Rattle.rules.specs.Grant.{granules, granted, granted_row, Fits}
-use Rattle.rules.specs.Release.{Pool, in_quarantine, evict_row, quarantine_row}
+use Rattle.rules.specs.Release.{Pool, evict_row, quarantine_row}
 use Rattle.rules.proofs.Tests.{by_order}
 use Rattle.rules.proofs.Put.{length_put, put_in, put_before, put_after}
 use Rattle.rules.proofs.Table.{rows_same, length_put_row, column_put_row, column_put_row_other}

@@ -1,5 +1,4 @@
 -- Table and shadow after every text, read off what agrees with the history: shape, rows and encoding. Assumes nothing.
-use mathlib.Core.List.{List}
 use Rattle.promises.specs.Shape.{Shape, RowsAreBlocks, Encoding}
 use Rattle.promises.proofs.Drawn.{byte_small, addressable_lies}
 use Rattle.promises.proofs.Beginning.{replay_holds, replay_agrees}

@@ -5,11 +5,10 @@ use native.Mathlib.Omega.{arith}
 use native.Mathlib.Decide.{ℕ_discrete}
 use mathlib.Core.Path.{◌≡◌, refl, sym, ap, subst, ◌∙◌, ap₂}
 use mathlib.Core.Logic.{◌≢◌, ◌⊎◌, inl, inr, ⊎_elim}
-use mathlib.Core.Bool.{true, false}
 use mathlib.Core.Option.{Option, none, some, none-ne-some}
 use mathlib.Core.List.Memᴰ
-use mathlib.Core.List.{List, ◌++◌, [], ◌∷◌}
-use lib.ListN.{length, take, length-take}
+use mathlib.Core.List.{List, ◌++◌, ◌∷◌}
+use lib.ListN.{length}
 use borrow.Author.Tests.{eqb-true}
 use Rattle.rules.specs.declared.Answer.{Answer}
 use Rattle.rules.specs.declared.Answer.TheVariants.{Done, BadLine, BadKind, NotZero}
@@ -18,25 +17,25 @@ use Rattle.rules.specs.declared.Frame.TheVariants.{Grant, Release, Read, Write, 
 use Rattle.rules.specs.Limits.{granule, empty, live, quarantined}
 use Rattle.rules.specs.Table.{rows, start, state, is_empty}
 use Rattle.rules.specs.Answers.{in_numbers, status}
-use Rattle.rules.specs.Grant.{Acted, counted, granules, place, empty_row, grant_at, grant, unchanged, Fits, Place}
+use Rattle.rules.specs.Grant.{Acted, counted, granules, empty_row, grant_at, grant, unchanged, Fits, Place}
 use Rattle.rules.specs.Release.{row_at, release_row, release, Pool, quarantine_row}
 use Rattle.rules.specs.Feed.{act_line}
 use Rattle.rules.specs.Watcher.{access, act, watcher, outcome}
 use Rattle.rules.proofs.Tests.{by_order}
 use Rattle.rules.proofs.Lowest.{Lowest, below_all}
 use Rattle.rules.proofs.Grant.{counted_least, granules_above, place_some, place_none, empty_row_some}
-use Rattle.rules.proofs.Grant.{empty_row_none, by_grant, granules_enough, grant_keeps}
+use Rattle.rules.proofs.Grant.{empty_row_none, by_grant}
 use Rattle.rules.proofs.Release.{StartsAt, row_at_some, row_at_none, by_release, settle_count, release_nothing}
-use Rattle.promises.specs.History.{Exchange, asks, status_of, value_of, Block, block, has_byte, at, weigh, latest}
+use Rattle.promises.specs.History.{Exchange, asks, status_of, value_of, Block, block, at, latest}
 use Rattle.promises.specs.History.{held}
-use Rattle.promises.specs.History.{nothing_sought, sought_by, seeks, Granted, grants_at, releases_at, did, events}
-use Rattle.promises.specs.History.{History, happens, happen, heard, heard_all}
-use Rattle.promises.specs.Replay.{session, history, live_at, quarantine_at, held_at}
+use Rattle.promises.specs.History.{nothing_sought, sought_by, seeks, Granted, grants_at, releases_at, did}
+use Rattle.promises.specs.History.{History, happens, happen, heard}
+use Rattle.promises.specs.Replay.{history}
 use Rattle.promises.specs.Rows.{◌∈◌, past, Apart, Free, Starts, HeldRow, block_of, RowOf, in_use}
 use Rattle.promises.specs.Sought.{Theirs, ReleasedBy, Releases, RoomAt, LowestOf, PlacedBy, Placement, DoneBy}
 use Rattle.promises.specs.Sought.{AllSought, ReleasesNothing}
 use Rattle.promises.proofs.History.{release_seeks, release_seeks_nothing, did_grant, did_release, events_done}
-use Rattle.promises.proofs.History.{DidGrant, granted_by, heard_append}
+use Rattle.promises.proofs.History.{DidGrant, granted_by}
 use Rattle.promises.proofs.Lines.{by_line}
 use Rattle.promises.proofs.Replay.{Moment, acted_on, one_status}
 use Rattle.promises.proofs.Total.{access_number}

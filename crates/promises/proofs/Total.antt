@@ -17,7 +17,7 @@ use Rattle.rules.specs.Release.{release_row, release, Pool}
 use Rattle.rules.specs.Feed.{State, emptied, act_line, finish}
 use Rattle.rules.specs.Watcher.{access, act, watcher, state_of, pool_of}
 use Rattle.rules.specs.Calls.{FedWith, Called, fits_lent, within_limits, grant_call, release_call}
-use Rattle.rules.specs.Calls.{access_call, unfinished_call, feed_by, feed}
+use Rattle.rules.specs.Calls.{access_call, unfinished_call, feed_by}
 use Rattle.rules.specs.Maps.{region, map_answer, map_call}
 use Rattle.rules.proofs.Tests.{by_test, by_found}
 use Rattle.rules.proofs.Grant.{by_grant}

@@ -1,6 +1,6 @@
 -- Direct calls: each is the line of its frame. So what is promised of texts holds of direct calls too, made while no
 -- line is unfinished.
-use Rattle.std.specs.Prelude.{ℕ, ◌^◌, ◌<◌, ◌≡◌, true, List, []}
+use Rattle.std.specs.Prelude.{ℕ, ◌^◌, ◌<◌, ◌≡◌, List, []}
 use Rattle.rules.specs.declared.CallAnswer.{CallAnswer}
 use Rattle.rules.specs.declared.CallAnswer.TheVariants.{Answered, BadSession}
 use Rattle.rules.specs.Limits.{kind_grant, kind_release, kind_read, kind_write}

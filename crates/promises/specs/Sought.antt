@@ -1,6 +1,6 @@
 -- What a line seeks, and when it is there: of every line, the exact conditions of 07 and 08, then of 05 and 06, in the
 -- paper's order, and of 00; and the place of a grant.
-use Rattle.std.specs.Prelude.{ℕ, ◌+◌, ◌-◌, ◌*◌, ◌≤◌, ◌<◌, ◌≡◌, ◌≢◌, ◌↔◌, List, [], ◌++◌, length}
+use Rattle.std.specs.Prelude.{ℕ, ◌*◌, ◌≤◌, ◌<◌, ◌≡◌, ◌≢◌, ◌↔◌, List, [], ◌++◌, length}
 use Rattle.std.proofs.Math.Option.{some}
 use Rattle.rules.specs.declared.Frame.TheVariants.{Release}
 use Rattle.rules.specs.Limits.{granule}

@@ -23,11 +23,11 @@ use Rattle.rules.specs.Lowest.{lowest, found, all_equal, AllEqual}
 use Rattle.rules.specs.Release.{Pool}
 use Rattle.rules.specs.Feed.{Engine, State, Ran, no_bytes, with_line, emptied, lengthened, act_line, finish, hold}
 use Rattle.rules.specs.Feed.{step, run, taken}
-use Rattle.rules.specs.Watcher.{act, pool_of, lent_lengths, watcher, state_of}
+use Rattle.rules.specs.Watcher.{act, lent_lengths, watcher}
 use Rattle.rules.specs.Calls.{closed, fresh, table_length, OpenedWith, not_opened, open_with, unused_zero}
 use Rattle.rules.specs.Calls.{within_limits, fits_lent, Within, Lent, LentState, fits_session, KeepsLengths}
 use Rattle.rules.specs.Calls.{Called, called, as_line, grant_call, release_call, access_call, unfinished_call}
-use Rattle.rules.specs.Calls.{FedWith, fed_with, feed_by, feed}
+use Rattle.rules.specs.Calls.{FedWith, fed_with, feed_by}
 use Rattle.rules.proofs.Tests.{between_is, between_true, both, by_order, by_test, if_false, if_true, join}
 use Rattle.rules.proofs.Lowest.{walk_found, walk_on, walk_end, all_equal_true, all_equal_is}
 use Rattle.rules.proofs.Put.{length_put, put_after, put_nothing}

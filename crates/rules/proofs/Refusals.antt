@@ -20,7 +20,7 @@ use Rattle.rules.specs.Shadow.{kind, first_bad, FirstBad}
 use Rattle.rules.specs.Grant.{counted, granules, place, empty_row, grant_at, grant}
 use Rattle.rules.specs.Release.{row_at, release_row, release}
 use Rattle.rules.specs.Frames.{fields, frame}
-use Rattle.rules.specs.Watcher.{of_verdict, access, act, watcher, pool_of}
+use Rattle.rules.specs.Watcher.{of_verdict, access, watcher, pool_of}
 use Rattle.rules.specs.Calls.{table_length, open_with, within_limits, fits_lent, grant_call, release_call}
 use Rattle.rules.specs.Calls.{access_call, unfinished_call, feed}
 use Rattle.rules.specs.declared.Map.{Map}

@@ -1,22 +1,18 @@
 -- The laws of the watcher's engine: a refused line changes neither shadow nor table, and every line keeps their
 -- lengths. Assumes nothing.
-use Prim.Native.Nat.{ℕ, ◌*◌}
-use mathlib.Core.Path.{◌≡◌, refl, sym, ap, ◌∙◌}
+use Prim.Native.Nat.{ℕ}
+use mathlib.Core.Path.{◌≡◌, refl, ◌∙◌}
 use mathlib.Core.Logic.{◌≢◌}
-use mathlib.Core.Bool.{true}
 use mathlib.Core.List.{List}
 use lib.ListN.{length}
-use borrow.Author.Tests.{eqb-true, eq-eqb}
 use Rattle.rules.specs.declared.Session.{Session}
 use Rattle.rules.specs.declared.Frame.{Frame}
 use Rattle.rules.specs.declared.Frame.TheVariants.{Grant, Release, Read, Write, Refused}
-use Rattle.rules.specs.Limits.{row_numbers}
 use Rattle.rules.specs.Answers.{in_numbers, status}
 use Rattle.rules.specs.Grant.{Acted, grant_at, grant}
 use Rattle.rules.specs.Release.{Pool, release_row, release}
 use Rattle.rules.specs.Feed.{State, act_line, finish, hold, step, run}
-use Rattle.rules.specs.Watcher.{act, lent_lengths, watcher}
-use Rattle.rules.proofs.Tests.{both, join}
+use Rattle.rules.specs.Watcher.{act, watcher}
 use Rattle.rules.proofs.Grant.{SameLengths, by_grant, grant_lengths}
 use Rattle.rules.proofs.Release.{by_release, release_lengths}
 use Rattle.rules.proofs.Feed.{by_byte, run_has}

@@ -1,7 +1,6 @@
 -- One night's trace, whole: the sixteen marked lines as one computed fact about the definitions.
 use Rattle.std.specs.Prelude.{ℕ, ◌*◌, ◌≡◌, refl, List, [], ◌∷◌, ◌++◌, replicate}
 use Prim.Native.String.{String}
-use Prim.Native.String
 use Prim.Native.Char.{code}
 use Rattle.rules.specs.Limits.{row_numbers, line_feed, kind_grant}
 use Rattle.rules.specs.Lowest.{lowest, all_equal, total}
@@ -19,7 +18,7 @@ use Rattle.rules.specs.Frames.{answer_line, line_of}
 use Rattle.rules.specs.Feed.{State, Ran, with_line, emptied, lengthened, act_line, finish, hold, step, run, taken}
 use Rattle.rules.specs.Watcher.{of_verdict, access, act, lent_lengths, watcher, state_of}
 use Rattle.rules.specs.Calls.{fresh, table_length, OpenedWith, open_with, unused_zero, within_limits}
-use Rattle.rules.specs.Calls.{fits_session, fits_lent, feed_by, feed}
+use Rattle.rules.specs.Calls.{fits_session, feed_by, feed}
 
 -- a text's bytes
 unfoldable pub bytes : String → List ℕ
