@@ -67,7 +67,8 @@ granted_small s k in_block =
 
 module _ {S R : ℕ} {shadow table : List ℕ} (laid : Laid S R shadow table) where
   -- a held row's granules are not fa
-  not_free : (j : ℕ) → HeldRow table j → (g : ℕ) → start table j ≤ g → g < ends table j → get_or shadow g 0 ≢ redzone_byte
+  not_free : (j : ℕ) → HeldRow table j → (g : ℕ) → start table j ≤ g → g < ends table j
+      → get_or shadow g 0 ≢ redzone_byte
   not_free j h g from below free =
       ⊎_elim {C = ⊥}
       (λ is.

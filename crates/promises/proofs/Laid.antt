@@ -41,7 +41,8 @@ pub record Laid (S R : ℕ) (shadow table : List ℕ) : Type 0 where
   pub apart : (i j : ℕ) → HeldRow table i → HeldRow table j → i ≢ j
       → (ends table i + R ≤ start table j) ⊎ (ends table j + R ≤ start table i)
   pub of_live : (i : ℕ) → i < rows table → state table i ≡ live
-      → (k : ℕ) → k < granules (size table i) → get_or shadow (start table i + k) 0 ≡ get_or (granted (size table i)) k 0
+      → (k : ℕ) → k < granules (size table i) → get_or shadow (start table i + k) 0
+      ≡ get_or (granted (size table i)) k 0
   pub of_quarantined : (i : ℕ) → i < rows table → state table i ≡ quarantined
       → (g : ℕ) → start table i ≤ g → g < ends table i → get_or shadow g 0 ≡ released_byte
   pub of_none : (g : ℕ) → g < S → ((i : ℕ) → HeldRow table i → Off table i g) → get_or shadow g 0 ≡ redzone_byte

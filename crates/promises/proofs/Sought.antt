@@ -92,7 +92,8 @@ Left R Q h x = length (latest R Q h.released) + 1 - length (latest R Q (heard h 
 
 -- what a line that seeks something found, and what it said; and that no other line is answered 05 to 08
 pub data Finding (S n R Q : ℕ) (h : History) (x : Exchange) : Type 0 where
-  foreign : (a : ℕ) → (seeks x).block ≡ some a → status_of x ≡ some 7 → (Starts (held R Q h) a → ⊥) → Finding S n R Q h x
+  foreign : (a : ℕ) → (seeks x).block ≡ some a → status_of x ≡ some 7 → (Starts (held R Q h) a → ⊥)
+      → Finding S n R Q h x
   twice : (a : ℕ) → (seeks x).block ≡ some a → status_of x ≡ some 8
       → Starts (latest R Q h.released) a → (Starts h.live a → ⊥) → Finding S n R Q h x
   full : (s : ℕ) → (seeks x).room ≡ some s → status_of x ≡ some 5 → Theirs h.live (seeks x)

@@ -1,5 +1,6 @@
 -- The blocks that the table holds, how far apart blocks are, and the shadow that a table draws.
-use Rattle.std.specs.Prelude.{ℕ, zero, suc, ◌+◌, ◌-◌, ◌*◌, ◌≤◌, ◌<◌, ◌≡◌, ◌≢◌, ◌⊎◌, Bool, true, false, ◌&&◌, ◌||◌, get_or, eqb, leb, ltb}
+use Rattle.std.specs.Prelude.{ℕ, zero, suc, ◌+◌, ◌-◌, ◌*◌, ◌≤◌, ◌<◌, ◌≡◌, ◌≢◌, ◌⊎◌, Bool, true, false, ◌&&◌, ◌||◌}
+use Rattle.std.specs.Prelude.{get_or, eqb, leb, ltb}
 use Rattle.std.proofs.Math.Option.{none, some}
 use mathlib.Core.List.{List, [], ◌∷◌, Memᴰ}
 use Rattle.rules.specs.Limits.{granule, redzone_byte, released_byte, live, quarantined}
@@ -75,7 +76,10 @@ covers table g i =
 -- fd in the granules of a quarantined row, in those of a live row what its grant painted
 unfoldable pub painted : List ℕ → ℕ → ℕ → ℕ
 painted table g i =
-    elim (is_quarantined table i) [ true ↦ released_byte | false ↦ get_or (granted (size table i)) (g - start table i) 0 ]
+    elim (is_quarantined table i) [
+      | true ↦ released_byte
+      | false ↦ get_or (granted (size table i)) (g - start table i) 0
+    ]
 
 -- and fa everywhere else
 unfoldable pub drawn_byte : List ℕ → ℕ → ℕ

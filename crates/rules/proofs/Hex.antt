@@ -278,7 +278,8 @@ module _ {A : Type 0} where
 
   pub field_some : (fields : List (Field A)) (k : ℕ) (line : List ℕ)
       → start_of fields k + width_of fields k ≤ length line
-      → ((i : ℕ) → start_of fields k ≤ i → i < start_of fields k + width_of fields k → hex_digit (get_or line i 0) ≢ none)
+      → ((i : ℕ) → start_of fields k ≤ i → i < start_of fields k + width_of fields k
+      → hex_digit (get_or line i 0) ≢ none)
       → (v : ℕ) × (read_field fields k line ≡ some v)
   unfolding read_field
   field_some fields k line room all = part_some line (start_of fields k) (width_of fields k) room all

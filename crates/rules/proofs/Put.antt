@@ -137,7 +137,8 @@ length_fill whole at n v =
     ≡ min n (length whole - at) = length-replicate (min n (length whole - at)) v in omega arith))
     (λ past. ap length (fill_past whole at n v past))
 
-pub fill_in : (whole : List ℕ) (at n v k d : ℕ) → at ≤ k → k < at + n → k < length whole → get_or (fill whole at n v) k d
+pub fill_in : (whole : List ℕ) (at n v k d : ℕ) → at ≤ k → k < at + n → k < length whole
+    → get_or (fill whole at n v) k d
     ≡ v
 unfolding fill
 fill_in whole at n v k d from below in_whole =

@@ -80,7 +80,8 @@ unwritten_poisoned v from below = leading_none v from
 
 -- the published test of one byte: addressable where the shadow byte is 0, or byte j of the granule is below it as a
 -- signed number. It holds of every byte but 08 to 7f, which the published rule never writes
-pub published_test : (v j : ℕ) → j < granule → (8 ≤ v → 128 ≤ v) → ltb j (leading v) ≡ eqb v 0 || lt_z (pos j) (signed v)
+pub published_test : (v j : ℕ) → j < granule → (8 ≤ v → 128 ≤ v)
+    → ltb j (leading v) ≡ eqb v 0 || lt_z (pos j) (signed v)
 published_test v j in_granule written =
     by_order v 8
     (λ small.

@@ -1,6 +1,7 @@
 -- The table: rows of numbers, start granule, size in bytes, state and turn. A table is any list of numbers, scribbled
 -- ones too.
-use Rattle.std.specs.Prelude.{ℕ, zero, suc, ◌+◌, ◌-◌, ◌*◌, ◌/◌, ◌≡◌, refl, Bool, List, [], ◌∷◌, length, get_or, set, eqb}
+use Rattle.std.specs.Prelude.{ℕ, zero, suc, ◌+◌, ◌-◌, ◌*◌, ◌/◌, ◌≡◌, refl, Bool, List, [], ◌∷◌, length, get_or, set}
+use Rattle.std.specs.Prelude.{eqb}
 use Rattle.rules.specs.declared.Row.{Row}
 use Rattle.rules.specs.Limits.{start_column, size_column, state_column, turn_column, row_numbers}
 use Rattle.rules.specs.Limits.{empty, quarantined}
