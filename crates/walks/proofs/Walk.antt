@@ -1,13 +1,13 @@
 -- Rules for a walk by hand over a function's locals, each a few of the kit's in one. `n` is the place of a local's cell
 -- in the context, `m` that of the struct that a reference leads to. Assumes what the kit's rules assume.
---     local-of, field-of, behind   the operands `x`, `x.k` and `(*x).k`
---     address, with-length         the right sides of the two statements that lend a slice on: its address, and that
---                                  with its length
---     sets, stores                 the statements `x = ..` of a local that was not set before, and `(*x).k = ..`
---     gone                         a local at the function's end
---     cell                         where a local stands in the context, of `last` + 1 locals: the last first, two items
---                                  each, its cell and what frees it, behind `front` other items
---     pair_of                      a slice as the machine has it: an address and a length
+--     local_of, field_operand, behind   the operands `x`, `x.k` and `(*x).k`
+--     address, with_length              the right sides of the two statements that lend a slice on: its address, and
+--                                       that with its length
+--     sets, stores                      the statements `x = ..` of a local that was not set before, and `(*x).k = ..`
+--     gone                              a local at the function's end
+--     cell                              where a local stands in the context, of `last` + 1 locals: the last first, two
+--                                       items each, its cell and what frees it, behind `front` other items
+--     pair_of                           a slice as the machine has it: an address and a length
 use mathlib.Core.Path.{◌≡◌, refl, subst₂}
 use mathlib.Core.Option.{some}
 use mathlib.Core.List.{List, [], ◌∷◌}
