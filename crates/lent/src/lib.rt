@@ -6,7 +6,7 @@ ghost use Rattle.lent.specs.Calls.{FeedInPlaceCall};
 
 use rules::{Counts, Session};
 
-// The by-value feed is called on the session, and the session that it hands back is stored.
+// The session is taken apart, the by-value feed is called, and the fields of the session that it hands back are stored.
 pub fn feed_in_place(
     session: &mut Session,
     shadow: &mut [u8],
@@ -18,8 +18,24 @@ pub fn feed_in_place(
         piece.now room.old
         result session.new shadow.new table.new room.new }
 {
-    let fed = watcher::feed(*session, shadow, table, piece, room);
-    *session = fed.session;
+    let line = session.line;
+    let before = Session {
+        granules: session.granules,
+        rows: session.rows,
+        redzone: session.redzone,
+        quarantine: session.quarantine,
+        unfinished: session.unfinished,
+        line,
+    };
+    let fed = watcher::feed(before, shadow, table, piece, room);
+    let after = fed.session;
+    session.granules = after.granules;
+    session.rows = after.rows;
+    session.redzone = after.redzone;
+    session.quarantine = after.quarantine;
+    session.unfinished = after.unfinished;
+    let line = after.line;
+    session.line = line;
     Counts {
         status: fed.status,
         taken: fed.taken,
