@@ -101,15 +101,27 @@ static int unwritten(unsigned char memory[2][MEMORY], size_t i)
     return memory[0][i] == 0x5a && memory[1][i] == 0xa5;
 }
 
-/* The last byte written is the last of the last field, and the struct ends at the next multiple of 8, the alignment of
- * each struct here: neither side has a field behind the other's. */
-static void ends_at(const char *what, struct field last, size_t size, unsigned char memory[2][MEMORY])
+/* The archive writes zeros from the end of a field to `next`, `count` of them, and no field of the header reaches into
+ * them. */
+static void padded(const char *what, struct field field, size_t count, size_t next, unsigned char memory[2][MEMORY])
+{
+    size_t at = next - count;
+    fact(field.offset + field.width == at, what, field.name, field.offset);
+    while (at < next && memory[0][at] == 0 && memory[1][at] == 0)
+        at++;
+    fact(at == next, what, "zeros behind a field", at);
+}
+
+/* The last byte written is the last of the last field, or of `padding` zeros behind it, and the struct ends at the next
+ * multiple of 8, the alignment of each struct here: neither side has a field behind the other's. */
+static void ends_at(const char *what, struct field last, size_t padding, size_t size, unsigned char memory[2][MEMORY])
 {
     size_t end = 0;
     for (size_t i = 0; i < MEMORY; i++)
         if (!unwritten(memory, i))
             end = i + 1;
-    fact(end == last.offset + last.width, what, last.name, end);
+    fact(end == last.offset + last.width + padding, what, last.name, end);
+    padded(what, last, padding, end, memory);
     fact((end + 7) / 8 * 8 == size, what, "its size", end);
 }
 
@@ -129,7 +141,7 @@ static void look_at_opened(void)
         holds_session("opened", memory[i] + in_opened[0].offset, REDZONE, "");
         holds("opened", in_opened[1], memory[i], KINKHOST_DONE);
     }
-    ends_at("opened", in_opened[1], sizeof(struct kinkhost_opened), memory);
+    ends_at("opened", in_opened[1], 7, sizeof(struct kinkhost_opened), memory);
     fill(memory);
     for (int i = 0; i < 2; i++) {
         raw_open(memory[i], shadow, GRANULES, table, NUMBERS, REDZONE + 1, QUARANTINE);
@@ -164,7 +176,8 @@ static void look_at_fed(void)
         holds("fed", in_fed[2], memory[i], sizeof text - 1);
         holds("fed", in_fed[3], memory[i], KINKHOST_ANSWER_BYTES);
     }
-    ends_at("fed", in_fed[3], sizeof(struct kinkhost_fed), memory);
+    padded("fed", in_fed[1], 7, in_fed[2].offset, memory);
+    ends_at("fed", in_fed[3], 0, sizeof(struct kinkhost_fed), memory);
 }
 
 /* Two copies of a session, to be lent amid two patterns. */
@@ -187,7 +200,8 @@ static void feed_in_place(const char *what, unsigned char lent[2][MEMORY], const
         for (int field = 0; field < 3; field++)
             holds(what, in_counts[field], memory[i], numbers[field]);
     }
-    ends_at(what, in_counts[2], sizeof(struct kinkhost_counts), memory);
+    padded(what, in_counts[0], 7, in_counts[1].offset, memory);
+    ends_at(what, in_counts[2], 0, sizeof(struct kinkhost_counts), memory);
     while (kept < MEMORY && (kept - LENT < sizeof(struct kinkhost_session) || unwritten(lent, kept)))
         kept++;
     fact(kept == MEMORY, what, "written outside the session", kept);
