@@ -1,5 +1,6 @@
 -- What a report says in sum: its answers counted by number, the first line that was not done, and the verdict.
-use Rattle.std.specs.Prelude.{ℕ, zero, suc, ◌+◌, ◌-◌, ◌*◌, ◌/◌, ◌^◌, true, false, ◌≡◌, refl, List, length, get_or, drop, set, replicate, eqb, ltb}
+use Rattle.std.specs.Prelude.{ℕ, zero, suc, ◌+◌, ◌-◌, ◌*◌, ◌/◌, ◌^◌, true, false, ◌≡◌, refl, List, length, get_or, drop}
+use Rattle.std.specs.Prelude.{set, replicate, eqb, ltb}
 use Rattle.rules.specs.declared.Found.{Found}
 use Rattle.rules.specs.declared.Found.TheVariants.{One, Nothing}
 use Rattle.rules.specs.Field.{start_of}
@@ -37,7 +38,8 @@ status_at report at = status_in (drop at report)
 
 -- the counts by number, with one more of this one
 unfoldable pub counted : List ℕ → ℕ → List ℕ
-counted counts status = elim (ltb status 10) [ true ↦ set counts status (more (get_or counts status 0)) | false ↦ counts ]
+counted counts status =
+    elim (ltb status 10) [ true ↦ set counts status (more (get_or counts status 0)) | false ↦ counts ]
 
 -- with an answer of this number, and the first line not done as it was
 abbrev pub further : Tally → ℕ → Tally

@@ -1,6 +1,5 @@
 -- `answers::call_numbers_of` meets its contract: as a line's answer, or the row of 24. Assumes nothing.
 use mathlib.Core.Path.{sym, ap, ◌∙◌}
-use borrow.Author.Rules.{rules}
 use Rattle.rules.specs.Answers.{call_in_numbers}
 use Rattle.answers.proofs.call_numbers_of.Goals as goal
 

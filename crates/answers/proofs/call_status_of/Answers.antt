@@ -1,6 +1,5 @@
 -- `answers::call_status_of` meets its contract: the number of the answer in the paper's table. Assumes nothing.
 use mathlib.Core.Path.{ap}
-use borrow.Author.Rules.{rules}
 use Rattle.rules.specs.Answers.{call_status}
 use Rattle.answers.proofs.call_status_of.Goals as goal
 

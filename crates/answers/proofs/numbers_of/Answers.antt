@@ -1,7 +1,6 @@
 -- `answers::numbers_of` meets its contract: in each arm the answer is the arm's own, at which the table computes.
 -- Assumes nothing.
 use mathlib.Core.Path.{sym, ap, ◌∙◌}
-use borrow.Author.Rules.{rules}
 use Rattle.rules.specs.Answers.{in_numbers}
 use Rattle.answers.proofs.numbers_of.Goals as goal
 

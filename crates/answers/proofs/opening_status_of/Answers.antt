@@ -1,6 +1,5 @@
 -- `answers::opening_status_of` meets its contract: in each arm the answer is the arm's own. Assumes nothing.
 use mathlib.Core.Path.{sym, ap}
-use borrow.Author.Rules.{rules}
 use Rattle.rules.specs.Answers.{opening_status}
 use Rattle.answers.proofs.opening_status_of.Goals as goal
 

@@ -1,6 +1,5 @@
 -- `evictions::evict` meets its contract: the row is painted over, emptied, and the turns are lessened. Assumes nothing.
 use mathlib.Core.Path.{ap, ap₂, ◌∙◌}
-use borrow.Author.Rules.{rules}
 use Rattle.rules.specs.Limits.{redzone_byte}
 use Rattle.rules.specs.Put.{fill}
 use Rattle.rules.specs.Table.{put_row, lessened}

@@ -1,4 +1,4 @@
-use Prim.Native.Nat.{ℕ, suc, ◌+◌, ◌-◌, ◌/◌, ◌≤◌, ◌<◌}
+use Prim.Native.Nat.{ℕ, suc, ◌-◌, ◌/◌, ◌<◌}
 use native.Mathlib.Nat.{le_refl}
 use native.Mathlib.Numerals.{add-one}
 use native.Mathlib.Omega.{arith}
@@ -27,7 +27,8 @@ unfolding table.rows
 in_rows before below = below
 
 -- the row's turn, lessened, is stored
-stored : (before : List ℕ) {here after : List ℕ} (row : ℕ) {own lesser : ℕ} → here ≡ lessened before row → own ≡ turn here row
+stored : (before : List ℕ) {here after : List ℕ} (row : ℕ) {own lesser : ℕ} → here ≡ lessened before row
+    → own ≡ turn here row
     → lesser ≡ own - 1
     → after ≡ set_number turn_column here row lesser
     → after ≡ lessened before (suc row)

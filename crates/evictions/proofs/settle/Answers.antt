@@ -1,10 +1,7 @@
 use Prim.Native.Nat.{◌+◌, ◌-◌}
 use native.Mathlib.Omega.{arith}
-use mathlib.Core.Path.{◌≡◌, sym, ap, subst, ◌∙◌}
-use borrow.Author.Rules.{rules}
-use Rattle.rules.specs.Table.{rows, size}
-use Rattle.rules.specs.Release.{in_quarantine, weight, Pool}
-use Rattle.rules.proofs.Release.{Oldest}
+use mathlib.Core.Path.{sym, ap, subst, ◌∙◌}
+use Rattle.rules.specs.Release.{in_quarantine, weight}
 use Rattle.evictions.specs.Evictions.{pool}
 use Rattle.blocks.proofs.Survey.{rows_most}
 use Rattle.evictions.proofs.Settling.{Settling, settling_start, settling_done, settling_never, settling_count}

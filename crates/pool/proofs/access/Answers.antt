@@ -1,6 +1,5 @@
 -- `pool::access` meets its contract: the first bad byte of an arena has 32 bits. Assumes nothing.
 use mathlib.Core.Path.{sym, ap, ◌∙◌}
-use borrow.Author.Rules.{rules}
 use Rattle.rules.specs.Watcher.{of_verdict, access}
 use Rattle.rules.proofs.Shadow.{bad_judge, first_bad_fits}
 use Rattle.pool.proofs.access.Goals as goal

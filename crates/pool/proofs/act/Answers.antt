@@ -1,10 +1,7 @@
 -- `pool::act` meets its contract: in each arm the frame is the arm's own, and what the arm's function says is the
 -- rule's. Assumes nothing.
 use mathlib.Core.Path.{sym, ap, ◌∙◌}
-use borrow.Author.Rules.{rules}
-use Rattle.rules.specs.declared.Answer.{Answer}
-use Rattle.rules.specs.declared.Frame.{Frame}
-use Rattle.rules.specs.Grant.{Acted, unchanged}
+use Rattle.rules.specs.Grant.{unchanged}
 use Rattle.rules.specs.Watcher.{act}
 use Rattle.rules.proofs.Calls.{lent_granules}
 use Rattle.pool.proofs.act.Goals as goal

@@ -8,14 +8,13 @@ use mathlib.Core.List.{List}
 use Rattle.rules.specs.declared.Session.{Session}
 use Rattle.rules.specs.declared.Found.{Found}
 use Rattle.rules.specs.declared.Found.TheVariants.{One}
-use borrow.Author.Rules.{rules}
 use Rattle.rules.specs.declared.Answer.TheVariants.{Done}
 use Rattle.rules.specs.Limits.{granule}
 use Rattle.rules.specs.Lowest.{answered}
 use Rattle.rules.specs.Put.{put}
 use Rattle.rules.specs.Table.{put_row}
 use Rattle.rules.specs.Calls.{Lent}
-use Rattle.rules.specs.Grant.{acted, counted, granules, granted, place, empty_row, granted_row, grant_at}
+use Rattle.rules.specs.Grant.{acted, counted, granules, granted, place, granted_row, grant_at}
 use Rattle.rules.proofs.Lowest.{below_all, answered_one, answered_nothing}
 use Rattle.rules.proofs.Grant.{length_granted, place_inside, place_fits, empty_row_some, grant_no_row, grant_no_place}
 use Rattle.rules.proofs.Grant.{grant_done}
@@ -61,7 +60,8 @@ returns-in_default-place c =
     (granules_is c.args.size c.counted-asked.ensures c.granules_of-granules.ensures))))
 
 -- the place that was found
-place_is : (R : ℕ) (shadow : List ℕ) (size : ℕ) {asked u p : ℕ} {found : Found} → asked ≡ counted size → u ≡ granules asked
+place_is : (R : ℕ) (shadow : List ℕ) (size : ℕ) {asked u p : ℕ} {found : Found} → asked ≡ counted size
+    → u ≡ granules asked
     → found ≡ answered (place shadow R u)
     → found ≡ One p
     → place shadow R (granules (counted size)) ≡ some p

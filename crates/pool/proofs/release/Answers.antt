@@ -1,5 +1,4 @@
 -- `pool::release` meets its contract. Assumes nothing.
-use borrow.Author.Rules.{rules}
 use Rattle.rules.proofs.Calls.{lent_numbers, lent_redzone}
 use Rattle.pool.proofs.release.Goals as goal
 

@@ -1,12 +1,10 @@
 -- `quarantine::first_to_leave` meets its contract, by the two turns and the two rows. Assumes nothing.
-use Prim.Native.Nat.{ℕ, ◌≤◌}
+use Prim.Native.Nat.{ℕ}
 use native.Mathlib.Omega.{arith}
 use mathlib.Core.Path.{◌≡◌, sym, ap, ◌∙◌}
 use mathlib.Core.List.{List}
-use borrow.Author.Rules.{rules}
 use Rattle.rules.specs.declared.Found.{Found}
 use Rattle.rules.specs.declared.Found.TheVariants.{One}
-use Rattle.rules.specs.Table.{turn}
 use Rattle.quarantine.specs.Quarantine.{first_to_leave}
 use Rattle.quarantine.proofs.Entering.{leaves_alone, leaves_lower, leaves_higher, leaves_first, leaves_second}
 use Rattle.quarantine.proofs.first_to_leave.Goals as goal

@@ -4,8 +4,7 @@ use mathlib.Core.Path.{◌≡◌, refl, sym, ap, ◌∙◌}
 use Rattle.std.proofs.Common.{◌≢◌}
 use mathlib.Core.List.{List}
 use mathlib.Core.Bool.{true≢false}
-use mathlib.Core.Option.{Option, none, some}
-use borrow.Author.Rules.{rules}
+use mathlib.Core.Option.{none, some}
 use Rattle.rules.specs.declared.Answer.{Answer}
 use Rattle.rules.specs.declared.Found.TheVariants.{One, Nothing}
 use Rattle.blocks.specs.declared.rows.Seen.{Seen}
@@ -18,7 +17,6 @@ use Rattle.rules.proofs.Tests.{by_found}
 use Rattle.rules.proofs.Lowest.{answered_one, answered_nothing}
 use Rattle.rules.proofs.Release.{StartsAt, row_at_some, release_nothing, release_done, release_twice, release_foreign}
 use Rattle.blocks.specs.Survey.{survey}
-use Rattle.evictions.specs.Evictions.{pool}
 use Rattle.quarantine.proofs.release.Goals as goal
 
 pub returns-then-address-eq0 : goal.returns-then-address-eq0

@@ -4,7 +4,6 @@ use borrow.Author.Tests.{lt-ltb, le-ltb}
 use Rattle.rules.proofs.Tests.{if_true, if_false}
 use Rattle.tally.specs.Tally.{counted}
 use lib.ListN.{set}
-use borrow.Author.Rules.{rules}
 use Rattle.tally.proofs.counted.Goals as goal
 
 pub returns-then-at-lt10 : goal.returns-then-at-lt10

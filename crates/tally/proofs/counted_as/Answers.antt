@@ -1,6 +1,5 @@
 -- `tally::counted_as` meets its contract: nothing found, a number below 10, or another. Assumes nothing.
 use mathlib.Core.Path.{sym, ap, ◌∙◌}
-use borrow.Author.Rules.{rules}
 use borrow.Author.Tests.{lt-ltb, le-ltb}
 use Rattle.rules.proofs.Tests.{if_true, if_false}
 use Rattle.tally.specs.Tally.{counted_as}

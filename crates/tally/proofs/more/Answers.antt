@@ -3,7 +3,6 @@ use mathlib.Core.Path.{sym}
 use borrow.Author.Tests.{lt-ltb, le-ltb}
 use Rattle.rules.proofs.Tests.{if_true, if_false}
 use Rattle.tally.specs.Tally.{more}
-use borrow.Author.Rules.{rules}
 use Rattle.tally.proofs.more.Goals as goal
 
 pub returns-then-count-lt18446744073709551615 : goal.returns-then-count-lt18446744073709551615

@@ -11,7 +11,8 @@ returns-then-tally-ne0 c = sym (if_false _ _ (ne_eqb _ _ c.if-tally-ne0.true))
 
 pub returns-then-unfinished-ne0 : goal.returns-then-unfinished-ne0
 unfolding verdict
-returns-then-unfinished-ne0 c = sym (if_true _ _ (eq-eqb _ _ c.if-tally-ne0.false) ∙ if_false _ _ (ne_eqb _ _ c.if-unfinished-ne0.true))
+returns-then-unfinished-ne0 c =
+    sym (if_true _ _ (eq-eqb _ _ c.if-tally-ne0.false) ∙ if_false _ _ (ne_eqb _ _ c.if-unfinished-ne0.true))
 
 pub returns : goal.returns
 unfolding verdict

@@ -1,7 +1,6 @@
 -- `tally::with_answer` meets its contract. Each return opens the choices of `with_answer` by its tests. Assumes
 -- nothing.
 use Rattle.tally.proofs.Counting.{noted_is, further_done, further_later}
-use borrow.Author.Rules.{rules}
 use Rattle.tally.proofs.with_answer.Goals as goal
 
 pub returns-then-status-ne0 : goal.returns-then-status-ne0

@@ -1,9 +1,7 @@
-use Prim.Native.Nat.{◌≤◌, ◌-◌}
 use native.Mathlib.Omega.{arith}
-use mathlib.Core.Path.{◌≡◌, sym, ap, ◌∙◌}
+use mathlib.Core.Path.{sym, ap, ◌∙◌}
 use Rattle.tally.specs.Tally.{with_answers, with_answers_zero, with_report}
 use Rattle.tally.proofs.Counting.{one_further}
-use borrow.Author.Rules.{rules}
 use Rattle.tally.proofs.with_report.Goals as goal
 
 pub loop-i-init : goal.loop-i-init

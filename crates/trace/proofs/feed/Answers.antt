@@ -1,10 +1,6 @@
-use Prim.Native.Nat.{◌-◌}
 use native.Mathlib.Omega.{arith}
-use lib.ListN.{length}
-use borrow.Author.Rules.{rules}
-use Rattle.rules.specs.Watcher.{state_of}
 use Rattle.trace.specs.Feed.{ran}
-use Rattle.trace.proofs.Feeding.{Feeding, feeding_start, feeding_room, feeding_byte, feeding_part, feeding_line}
+use Rattle.trace.proofs.Feeding.{feeding_start, feeding_room, feeding_byte, feeding_part, feeding_line}
 use Rattle.trace.proofs.Feeding.{feeding_end, feeding_full}
 use Rattle.trace.proofs.feed.Goals as goal
 
@@ -13,7 +9,8 @@ loop-taken-init c = feeding_start _ _ _ c.requires
 
 pub loop-taken-preserved-then-byte-ne-LINE_FEED : goal.loop-taken-preserved-then-byte-ne-LINE_FEED
 loop-taken-preserved-then-byte-ne-LINE_FEED c =
-    feeding_byte c.loop-taken.invariant (omega arith) c.if-byte-ne-LINE_FEED.true c.lengthened-current.result c.lengthened-current.ensures
+    feeding_byte c.loop-taken.invariant (omega arith) c.if-byte-ne-LINE_FEED.true c.lengthened-current.result
+    c.lengthened-current.ensures
 
 pub overflow_sub-room : goal.overflow_sub-room
 overflow_sub-room c =

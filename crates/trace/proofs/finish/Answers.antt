@@ -1,7 +1,6 @@
 -- `trace::finish` meets its contract: the frame, what it does, its answer and the emptied line are the rule's, one
 -- after the other. Assumes nothing.
 use mathlib.Core.Path.{ap, ◌∙◌}
-use borrow.Author.Rules.{rules}
 use Rattle.rules.specs.declared.Session.{Session}
 use Rattle.rules.specs.Grant.{Acted}
 use Rattle.rules.specs.Release.{Pool}

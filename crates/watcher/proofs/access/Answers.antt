@@ -1,10 +1,9 @@
 -- `watcher::access` meets its contract: 24 where the session does not fit what is lent, else as its frames do. Assumes
 -- nothing.
 use mathlib.Core.Path.{sym, ap, ◌∙◌}
-use borrow.Author.Rules.{rules}
 use Rattle.rules.specs.declared.CallAnswer.TheVariants.{Answered}
 use Rattle.rules.specs.Calls.{access_call}
-use Rattle.rules.proofs.Tests.{if_true, denied, passed}
+use Rattle.rules.proofs.Tests.{if_true}
 use Rattle.rules.proofs.Calls.{lent_true, lent_granules, access_24}
 use Rattle.watcher.proofs.access.Goals as goal
 

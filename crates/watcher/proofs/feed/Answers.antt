@@ -2,12 +2,10 @@
 -- run. Assumes nothing.
 use Prim.Native.Nat.{ℕ}
 use mathlib.Core.Path.{sym, ap, ◌∙◌}
-use borrow.Author.Rules.{rules}
 use Rattle.rules.specs.declared.Session.{Session}
 use Rattle.rules.specs.declared.Fed.{Fed}
 use Rattle.rules.specs.Answers.{call_status, call_in_numbers}
 use Rattle.rules.specs.Watcher.{watcher, pool_of}
-use Rattle.rules.proofs.Tests.{denied, passed}
 use Rattle.rules.proofs.Calls.{lent_true, feed_24, feed_done}
 use Rattle.trace.specs.Feed.{fed}
 use Rattle.watcher.proofs.Calls.{feed_call_is}

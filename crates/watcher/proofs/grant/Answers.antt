@@ -1,9 +1,8 @@
 -- `watcher::grant` meets its contract: 24 where the session does not fit what is lent, else as its frame does. Assumes
 -- nothing.
 use mathlib.Core.Path.{sym, ap, ◌∙◌}
-use borrow.Author.Rules.{rules}
 use Rattle.rules.specs.Calls.{as_line, grant_call}
-use Rattle.rules.proofs.Tests.{if_true, denied, passed}
+use Rattle.rules.proofs.Tests.{if_true}
 use Rattle.rules.proofs.Calls.{lent_true, grant_24}
 use Rattle.watcher.proofs.Calls.{grant_call_is}
 use Rattle.watcher.proofs.grant.Goals as goal

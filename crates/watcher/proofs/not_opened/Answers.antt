@@ -1,7 +1,6 @@
 -- `watcher::not_opened` meets its contract: the closed session, and the answer's number. Assumes nothing.
 use Prim.Native.Nat.{ℕ}
 use mathlib.Core.Path.{ap₂}
-use borrow.Author.Rules.{rules}
 use Rattle.rules.specs.declared.Session.{Session}
 use Rattle.rules.specs.declared.Opened.{Opened}
 use Rattle.watcher.proofs.not_opened.Goals as goal

@@ -1,13 +1,5 @@
 -- `watcher::open` meets its contract: its three tests are the definition's, in that order. Assumes nothing.
-use Prim.Native.Nat.{ℕ}
-use mathlib.Core.Path.{◌≡◌, sym, ap, ap₂, ◌∙◌}
-use mathlib.Core.Bool.{true}
-use mathlib.Core.List.{List}
-use lib.ListN.{length}
-use borrow.Author.Rules.{rules}
-use Rattle.rules.specs.Limits.{between, least_granules, most_granules, least_redzone, most_redzone}
-use Rattle.rules.specs.Calls.{table_length}
-use Rattle.rules.proofs.Tests.{denied, passed}
+use mathlib.Core.Path.{sym, ap, ap₂, ◌∙◌}
 use Rattle.rules.proofs.Calls.{open_bad_shadow, open_bad_redzone, open_bad_table, opened_with, open_done}
 use Rattle.watcher.proofs.Calls.{opened, open_call_is}
 use Rattle.watcher.proofs.open.Goals as goal
@@ -33,7 +25,8 @@ returns-then-not-table_length c =
     open_call_is
     (ap (λ given. opened given c.args.shadow.now c.args.table.now) c.not_opened-then-not-table_length.ensures
     ∙ sym (open_bad_table c.args.shadow.now c.args.table.now c.args.redzone c.args.quarantine
-    (sym c.granules_within.ensures ∙ c.if-not-granules_within.false) (sym c.redzone_within.ensures ∙ c.if-not-redzone_within.false) fails))
+    (sym c.granules_within.ensures ∙ c.if-not-granules_within.false)
+    (sym c.redzone_within.ensures ∙ c.if-not-redzone_within.false) fails))
 
 pub returns : goal.returns
 returns c =
@@ -46,4 +39,6 @@ returns c =
     c.cover.ensures c.clear.ensures
     ∙ sym
     (open_done c.args.shadow.now c.args.table.now c.args.redzone c.args.quarantine
-    (sym c.granules_within.ensures ∙ c.if-not-granules_within.false) (sym c.redzone_within.ensures ∙ c.if-not-redzone_within.false) (sym c.table_length.ensures ∙ c.if-not-table_length.false)))
+    (sym c.granules_within.ensures ∙ c.if-not-granules_within.false)
+    (sym c.redzone_within.ensures ∙ c.if-not-redzone_within.false)
+    (sym c.table_length.ensures ∙ c.if-not-table_length.false)))

@@ -1,8 +1,6 @@
 -- `watcher::unfinished` meets its contract: a length within its limits has 32 bits. Assumes nothing.
 use native.Mathlib.Omega.{arith}
 use mathlib.Core.Path.{sym, ◌∙◌}
-use borrow.Author.Rules.{rules}
-use Rattle.rules.proofs.Tests.{denied, passed}
 use Rattle.rules.proofs.Calls.{within_true, unfinished_24, unfinished_done}
 use Rattle.watcher.proofs.unfinished.Goals as goal
 

@@ -1,8 +1,5 @@
-use Prim.Native.Nat.{◌-◌}
 use native.Mathlib.Omega.{arith}
-use lib.ListN.{length}
-use borrow.Author.Rules.{rules}
-use Rattle.rules.proofs.Put.{Filled, filled_none, filled_more, filled_all}
+use Rattle.rules.proofs.Put.{filled_none, filled_more, filled_all}
 use Rattle.blocks.proofs.rows.clear.Goals as goal
 
 pub loop-i-init : goal.loop-i-init

@@ -1,10 +1,8 @@
 -- `blocks::rows::clear` meets its contract. The invariant is `Filled`: the first i numbers are 0 and the rest is as it
 -- was. The measure is what is left of the table. Assumes nothing.
 use Prim.Native.Nat.{◌-◌}
-use native.Mathlib.Omega.{arith}
 use lib.ListN.{length}
-use borrow.Author.Rules.{rules}
-use Rattle.rules.proofs.Put.{Filled, filled_none, filled_more, filled_all}
+use Rattle.rules.proofs.Put.{Filled}
 use Rattle.blocks.proofs.rows.clear.Given as goal
 
 abbrev pub invariant-loop-i : goal.invariant-loop-i

@@ -1,11 +1,11 @@
-use Prim.Native.Nat.{◌-◌, ◌/◌, ◌≤◌}
+use Prim.Native.Nat.{◌/◌}
 use native.Mathlib.Omega.{arith}
 use mathlib.Core.Path.{◌≡◌, sym, ap, ◌∙◌}
 use mathlib.Core.Bool.{true, false}
 use lib.ListN.{length}
 use borrow.Author.Tests.{eq-eqb, ne_eqb}
 use Rattle.rules.specs.Limits.{row_numbers, empty}
-use Rattle.rules.specs.Lowest.{lowest, answered}
+use Rattle.rules.specs.Lowest.{answered}
 use Rattle.rules.specs.Table.{state, is_empty}
 use Rattle.rules.specs.Table as table
 use Rattle.rules.specs.Grant.{empty_row}
@@ -37,7 +37,10 @@ loop-row-preserved c =
     let table = c.args.table.now in
     let is-not : is_empty table loop.row ≡ false =
     ne_eqb (state table loop.row) empty (λ e. c.if-number-eq-EMPTY.false (c.number.ensures ∙ e)) in
-    (omega arith, loop.invariant.1 ∙ walk_on (is_empty table) (length table / row_numbers) loop.row (omega arith) is-not)
+    (
+      omega arith,
+      loop.invariant.1 ∙ walk_on (is_empty table) (length table / row_numbers) loop.row (omega arith) is-not,
+    )
 
 pub returns : goal.returns
 returns c =

@@ -1,17 +1,10 @@
 -- `blocks::rows::empty_row` meets its contract. The invariant: what is sought is sought among the rows from `row` on.
 -- The measure is what is left of the rows. Assumes nothing.
-use Prim.Native.Nat.{◌-◌, ◌/◌, ◌≤◌}
-use native.Mathlib.Omega.{arith}
-use mathlib.Core.Path.{◌≡◌, sym, ap, ◌∙◌}
-use mathlib.Core.Bool.{true, false}
-use lib.ListN.{length}
-use borrow.Author.Tests.{eq-eqb, ne_eqb}
-use Rattle.rules.specs.Limits.{row_numbers, empty}
-use Rattle.rules.specs.Lowest.{lowest, answered}
-use Rattle.rules.specs.Table.{state, is_empty}
-use Rattle.rules.specs.Table as table
+use Prim.Native.Nat.{◌-◌, ◌≤◌}
+use mathlib.Core.Path.{◌≡◌}
+use Rattle.rules.specs.Lowest.{lowest}
+use Rattle.rules.specs.Table.{is_empty}
 use Rattle.rules.specs.Grant.{empty_row}
-use Rattle.rules.proofs.Lowest.{walk_start, walk_found, walk_on, walk_end}
 use Rattle.blocks.proofs.rows.empty_row.Given as goal
 
 abbrev pub invariant-loop-row : goal.invariant-loop-row

@@ -1,6 +1,5 @@
 -- `blocks::rows::first_of` meets its contract, case by case. Assumes nothing.
 use mathlib.Core.Path.{sym, ap, ap₂}
-use borrow.Author.Rules.{rules}
 use Rattle.blocks.specs.Survey.{first_of}
 use Rattle.blocks.proofs.rows.first_of.Goals as goal
 

@@ -1,7 +1,7 @@
-use Prim.Native.Nat.{◌+◌, ◌-◌, ◌*◌, ◌≤◌}
+use Prim.Native.Nat.{◌+◌, ◌*◌, ◌≤◌}
 use native.Mathlib.Omega.{arith}
 use mathlib.Core.Path.{◌≡◌, ap, ◌∙◌}
-use lib.ListN.{length, take, get_or, set}
+use lib.ListN.{length, get_or, set}
 use borrow.Author.Rules.{rules}
 use Rattle.rules.specs.Limits.{row_numbers}
 use Rattle.rules.specs.Put.{put}

@@ -1,4 +1,4 @@
-use Prim.Native.Nat.{◌-◌, ◌/◌, ◌≤◌}
+use Prim.Native.Nat.{◌/◌}
 use native.Mathlib.Omega.{arith}
 use mathlib.Core.Path.{◌≡◌, refl, ap, ◌∙◌}
 use lib.ListN.{length}

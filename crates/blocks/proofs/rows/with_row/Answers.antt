@@ -4,7 +4,6 @@ use native.Mathlib.Omega.{arith}
 use mathlib.Core.Path.{refl, sym, ap, ◌∙◌}
 use mathlib.Core.Bool.{◌||◌}
 use lib.Dec.{eqb}
-use borrow.Author.Rules.{rules}
 use Rattle.rules.specs.Limits.{granule, size_column, row_numbers}
 use Rattle.rules.specs.Table.{column, size}
 use Rattle.rules.specs.Release.{starts_at, weight}

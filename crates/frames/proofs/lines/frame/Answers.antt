@@ -33,4 +33,6 @@ returns-then-kind-eq-WRITE c =
 
 pub returns : goal.returns
 returns c =
-    sym (frame_other _ _ _ c.if-kind-eq-GRANT.false c.if-kind-eq-RELEASE.false c.if-kind-eq-READ.false c.if-kind-eq-WRITE.false)
+    sym
+    (frame_other _ _ _ c.if-kind-eq-GRANT.false c.if-kind-eq-RELEASE.false c.if-kind-eq-READ.false
+    c.if-kind-eq-WRITE.false)
