@@ -7,6 +7,7 @@ use rules::limits::ROW_NUMBERS;
 
 // What a feed answered, and everything that it left.
 pub fn feed(
+    out: &impl Print,
     words: &[u8],
     session: Session,
     shadow: &mut [u8],
@@ -15,13 +16,14 @@ pub fn feed(
     room: &mut [u8],
 ) {
     let fed = watcher::feed(session, shadow, table, piece, room);
-    print::begin(words);
-    print::fed(fed, room);
-    print::answer(b", unfinished ", watcher::unfinished(fed.session));
-    print::left(shadow, table);
+    print::begin(out, words);
+    print::fed(out, fed, room);
+    print::answer(out, b", unfinished ", watcher::unfinished(fed.session));
+    print::left(out, shadow, table);
 }
 
 fn open_and_feed(
+    out: &impl Print,
     words: &[u8],
     shadow: &mut [u8],
     table: &mut [u32],
@@ -32,11 +34,12 @@ fn open_and_feed(
 ) {
     let opened = watcher::open(shadow, table, redzone, quarantine);
     let session = opened.session;
-    feed(words, session, shadow, table, piece, room);
+    feed(out, words, session, shadow, table, piece, room);
 }
 
 // The room is lent full of marks, so that a byte beyond those written shows.
 fn fed(
+    out: &impl Print,
     words: &[u8],
     granules: usize,
     rows: usize,
@@ -53,6 +56,7 @@ fn fed(
             if room <= 80 {
                 let numbers = ROW_NUMBERS * rows;
                 open_and_feed(
+                    out,
                     words,
                     &mut shadow[0..granules],
                     &mut table[0..numbers],
@@ -65,24 +69,25 @@ fn fed(
             }
         }
     }
-    show::not_asked();
+    show::not_asked(out);
 }
 
 // Granules, rows, redzone, quarantine, room; piece.
-pub fn ask(case: &[u8]) {
+pub fn ask(out: &impl Print, case: &[u8]) {
     let numbers = fields::rest(case);
-    let given = fields::numbers(numbers);
+    let given = fields::numbers(out, numbers);
     fed(
+        out,
         fields::first(case),
         given[0],
         given[1],
         given[2],
-        fields::small(given[3]),
+        fields::small(out, given[3]),
         fields::rest(numbers),
         given[4],
     );
 }
 
-pub fn ask_each(cases: &[u8]) {
-    crate::ask_each(Section::Feeds, cases);
+pub fn ask_each(out: &impl Print, cases: &[u8]) {
+    crate::ask_each(out, Section::Feeds, cases);
 }

@@ -23,7 +23,7 @@ struct Read {
     values: [usize; 8],
 }
 
-fn with_digit(number: usize, digit: u8) -> usize {
+fn with_digit(out: &impl Print, number: usize, digit: u8) -> usize {
     if number < 0x1000_0000_0000_0000 {
         if b'0' <= digit {
             if digit <= b'9' {
@@ -31,27 +31,27 @@ fn with_digit(number: usize, digit: u8) -> usize {
             }
         }
     }
-    show::not_asked();
+    show::not_asked(out);
     0
 }
 
-fn with_byte(read: Read, byte: u8) -> Read {
+fn with_byte(out: &impl Print, read: Read, byte: u8) -> Read {
     let mut more = read;
     let at = read.at;
     if at < 8 {
         if byte == b' ' {
             more.at = at + 1;
         } else {
-            more.values[at] = with_digit(read.values[at], byte);
+            more.values[at] = with_digit(out, read.values[at], byte);
         }
         return more;
     }
-    show::not_asked();
+    show::not_asked(out);
     more
 }
 
 // The first field as decimal numbers with a space between them; those that are not there are 0.
-pub fn numbers(fields: &[u8]) -> [usize; 8] {
+pub fn numbers(out: &impl Print, fields: &[u8]) -> [usize; 8] {
     let field = first(fields);
     let mut read = Read {
         at: 0,
@@ -59,17 +59,17 @@ pub fn numbers(fields: &[u8]) -> [usize; 8] {
     };
     let mut i = 0;
     while i < field.len() {
-        read = with_byte(read, field[i]);
+        read = with_byte(out, read, field[i]);
         i += 1;
     }
     read.values
 }
 
-pub fn small(number: usize) -> u32 {
+pub fn small(out: &impl Print, number: usize) -> u32 {
     if number <= 0xffff_ffff {
         return number as u32;
     }
-    show::not_asked();
+    show::not_asked(out);
     0
 }
 

@@ -6,37 +6,46 @@ use crate::{Section, fields};
 use cases::{print, show};
 use rules::Session;
 
-fn act(session: Session, shadow: &mut [u8], table: &mut [u32]) {
-    print::answer(b"grant ", watcher::grant(session, shadow, table, 1));
-    print::answer(b", release ", watcher::release(session, shadow, table, 56));
+fn act(out: &impl Print, session: Session, shadow: &mut [u8], table: &mut [u32]) {
+    print::answer(out, b"grant ", watcher::grant(session, shadow, table, 1));
+    print::answer(
+        out,
+        b", release ",
+        watcher::release(session, shadow, table, 56),
+    );
 }
 
-fn look(session: Session, shadow: &[u8], table: &[u32]) {
-    print::answer(b", access ", watcher::access(session, shadow, table, 0, 1));
-    print::answer(b", unfinished ", watcher::unfinished(session));
+fn look(out: &impl Print, session: Session, shadow: &[u8], table: &[u32]) {
+    print::answer(
+        out,
+        b", access ",
+        watcher::access(session, shadow, table, 0, 1),
+    );
+    print::answer(out, b", unfinished ", watcher::unfinished(session));
 }
 
-fn feed(session: Session, shadow: &mut [u8], table: &mut [u32]) {
+fn feed(out: &impl Print, session: Session, shadow: &mut [u8], table: &mut [u32]) {
     let mut room = [b'.'; 13];
     let fed = watcher::feed(session, shadow, table, b"\n", &mut room);
-    io::write_all(1, b", feed ");
-    print::fed(fed, &room);
+    show::words(out, b", feed ");
+    print::fed(out, fed, &room);
 }
 
-fn call(words: &[u8], session: Session, shadow: &mut [u8], table: &mut [u32]) {
-    print::begin(words);
-    act(session, shadow, table);
-    look(session, shadow, table);
-    feed(session, shadow, table);
-    print::left(shadow, table);
+fn call(out: &impl Print, words: &[u8], session: Session, shadow: &mut [u8], table: &mut [u32]) {
+    print::begin(out, words);
+    act(out, session, shadow, table);
+    look(out, session, shadow, table);
+    feed(out, session, shadow, table);
+    print::left(out, shadow, table);
 }
 
-fn asked(words: &[u8], session: Session, granules: usize, numbers: usize) {
+fn asked(out: &impl Print, words: &[u8], session: Session, granules: usize, numbers: usize) {
     let mut shadow = [0x7e; 65537];
     let mut table = [7u32; 4100];
     if granules <= 65_537 {
         if numbers <= 4_100 {
             call(
+                out,
                 words,
                 session,
                 &mut shadow[0..granules],
@@ -45,23 +54,23 @@ fn asked(words: &[u8], session: Session, granules: usize, numbers: usize) {
             return;
         }
     }
-    show::not_asked();
+    show::not_asked(out);
 }
 
 // Granules, rows, redzone, quarantine, unfinished length, granules and numbers lent; the line's places, of which the
 // others are zero.
-pub fn ask(case: &[u8]) {
+pub fn ask(out: &impl Print, case: &[u8]) {
     let numbers = fields::rest(case);
-    let given = fields::numbers(numbers);
+    let given = fields::numbers(out, numbers);
     let session = Session {
         granules: given[0],
         rows: given[1],
         redzone: given[2],
-        quarantine: fields::small(given[3]),
+        quarantine: fields::small(out, given[3]),
         unfinished: given[4],
         line: line_of(fields::rest(numbers)),
     };
-    asked(fields::first(case), session, given[5], given[6]);
+    asked(out, fields::first(case), session, given[5], given[6]);
 }
 
 fn line_of(places: &[u8]) -> [u8; 18] {
@@ -70,14 +79,15 @@ fn line_of(places: &[u8]) -> [u8; 18] {
     line
 }
 
-fn ask_each(cases: &[u8]) {
-    crate::ask_each(Section::Sessions, cases);
+fn ask_each(out: &impl Print, cases: &[u8]) {
+    crate::ask_each(out, Section::Sessions, cases);
 }
 
 // "A closed session is all zeros." Four times 2^62 + 1 is 4 in 64 bits. "Length 0 to 19; 18 places for its first bytes,
 // unused ones zero." "Lent lengths not the session's": the unfinished length is asked with nothing lent.
-pub fn run() {
+pub fn run(out: &impl Print) {
     ask_each(
+        out,
         b"closed session|0 0 0 0 0 8 4|;\
             closed session, nothing lent|0 0 0 0 0 0 0|;\
             session of 7 granules|7 1 2 16 0 7 4|;\
@@ -90,6 +100,7 @@ pub fn run() {
             session of 2^62 + 1 rows|8 4611686018427387905 2 16 0 8 4|;",
     );
     ask_each(
+        out,
         b"session with R of 0|8 1 0 16 0 8 4|;\
             session with R of 1|8 1 1 16 0 8 4|;\
             session with R of 256|8 1 256 16 0 8 4|;\
@@ -98,6 +109,7 @@ pub fn run() {
             session with Q of 2^32 - 1|8 1 2 4294967295 0 8 4|;",
     );
     ask_each(
+        out,
         b"unfinished length 18|8 1 2 16 18 8 4|030000000000000001;\
             unfinished length 19|8 1 2 16 19 8 4|030000000000000001;\
             unfinished length 20|8 1 2 16 20 8 4|030000000000000001;\
@@ -111,6 +123,7 @@ pub fn run() {
             every place used, zero|8 1 2 16 18 8 4|;",
     );
     ask_each(
+        out,
         b"one granule less lent|8 1 2 16 0 7 4|;\
             one granule more lent|8 1 2 16 0 9 4|;\
             two rows, one lent|8 2 2 16 0 8 4|;\

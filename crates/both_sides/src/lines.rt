@@ -3,8 +3,9 @@ use crate::feeds;
 
 // "A frame is 18 hex digits of either case and a line feed." "An unfinished line is never acted on; its length can be
 // asked (19 stands for 19 or more)."
-fn lengths() {
+fn lengths(out: &impl Print) {
     feeds::ask_each(
+        out,
         b"line of 0 bytes|16 4 2 16 14|\n;\
             line of 1 byte|16 4 2 16 14|0\n;\
             line of 17 bytes|16 4 2 16 14|010000000d0000000\n;\
@@ -15,6 +16,7 @@ fn lengths() {
             0000000000000000000000000\n;",
     );
     feeds::ask_each(
+        out,
         b"0 bytes, no line feed|16 4 2 16 14|;\
             1 byte, no line feed|16 4 2 16 14|0;\
             17 bytes, no line feed|16 4 2 16 14|010000000d0000000;\
@@ -29,8 +31,9 @@ fn lengths() {
 
 // "A line answered, refused or not, empties the unfinished line." 02: "kind not 01 to 04". 03: "B not zero in 01 or
 // 02". 01 comes before 02, and 02 before 03.
-fn refusals() {
+fn refusals(out: &impl Print) {
     feeds::ask_each(
+        out,
         b"line of 19 bytes, then one of 18|16 4 2 16 27|010000000d000000000\n010000000d00000000\n;\
             grant in capitals|16 4 2 16 14|010000000D00000000\n;\
             access in capitals|16 4 2 16 14|03ABCDEF0100000001\n;\
@@ -42,6 +45,7 @@ fn refusals() {
             g as the first byte|16 4 2 16 14|g10000000d00000000\n;",
     );
     feeds::ask_each(
+        out,
         b"kind 00|16 4 2 16 14|000000000d00000000\n;\
             kind 02|16 4 2 16 14|020000000000000000\n;\
             kind 03|16 4 2 16 14|030000000000000001\n;\
@@ -59,7 +63,7 @@ fn refusals() {
     );
 }
 
-pub fn run() {
-    lengths();
-    refusals();
+pub fn run(out: &impl Print) {
+    lengths(out);
+    refusals(out);
 }

@@ -27,22 +27,22 @@ pub enum Section {
     Scribbles,
 }
 
-fn ask(section: Section, case: &[u8]) {
+fn ask(out: &impl Print, section: Section, case: &[u8]) {
     match section {
-        Section::Openings => opening::ask(case),
-        Section::Feeds => feeds::ask(case),
-        Section::Grants => sizes::ask(case),
-        Section::Accesses => addresses::ask(case),
-        Section::Sessions => forged::ask(case),
-        Section::Scribbles => scribbled::ask(case),
+        Section::Openings => opening::ask(out, case),
+        Section::Feeds => feeds::ask(out, case),
+        Section::Grants => sizes::ask(out, case),
+        Section::Accesses => addresses::ask(out, case),
+        Section::Sessions => forged::ask(out, case),
+        Section::Scribbles => scribbled::ask(out, case),
     }
 }
 
-fn ask_each(section: Section, cases: &[u8]) {
+fn ask_each(out: &impl Print, section: Section, cases: &[u8]) {
     let mut at = 0;
     while at < cases.len() {
         let end = text::mark_at(cases, at, b';');
-        ask(section, &cases[at..end]);
+        ask(out, section, &cases[at..end]);
         if end == cases.len() {
             return;
         }
@@ -50,14 +50,15 @@ fn ask_each(section: Section, cases: &[u8]) {
     }
 }
 
-fn main() {
-    opening::run();
-    lines::run();
-    report::run();
-    sizes::run();
-    addresses::run();
-    rows::run();
-    releases::run();
-    forged::run();
-    scribbled::run();
+fn main(rt: HostRuntime) {
+    let out = &rt;
+    opening::run(out);
+    lines::run(out);
+    report::run(out);
+    sizes::run(out);
+    addresses::run(out);
+    rows::run(out);
+    releases::run(out);
+    forged::run(out);
+    scribbled::run(out);
 }

@@ -3,20 +3,35 @@
 use crate::{Section, fields};
 use cases::{print, show};
 
-fn open(words: &[u8], shadow: &mut [u8], table: &mut [u32], redzone: usize, quarantine: u32) {
+fn open(
+    out: &impl Print,
+    words: &[u8],
+    shadow: &mut [u8],
+    table: &mut [u32],
+    redzone: usize,
+    quarantine: u32,
+) {
     let opened = watcher::open(shadow, table, redzone, quarantine);
-    print::begin(words);
-    print::status(opened.status);
-    print::session(opened.session);
-    print::left(shadow, table);
+    print::begin(out, words);
+    print::status(out, opened.status);
+    print::session(out, opened.session);
+    print::left(out, shadow, table);
 }
 
-fn opened(words: &[u8], granules: usize, numbers: usize, redzone: usize, quarantine: u32) {
+fn opened(
+    out: &impl Print,
+    words: &[u8],
+    granules: usize,
+    numbers: usize,
+    redzone: usize,
+    quarantine: u32,
+) {
     let mut shadow = [0x7e; 65537];
     let mut table = [7u32; 4100];
     if granules <= 65_537 {
         if numbers <= 4_100 {
             open(
+                out,
                 words,
                 &mut shadow[0..granules],
                 &mut table[0..numbers],
@@ -26,29 +41,31 @@ fn opened(words: &[u8], granules: usize, numbers: usize, redzone: usize, quarant
             return;
         }
     }
-    show::not_asked();
+    show::not_asked(out);
 }
 
 // Granules, numbers, redzone, quarantine.
-pub fn ask(case: &[u8]) {
-    let given = fields::numbers(fields::rest(case));
+pub fn ask(out: &impl Print, case: &[u8]) {
+    let given = fields::numbers(out, fields::rest(case));
     opened(
+        out,
         fields::first(case),
         given[0],
         given[1],
         given[2],
-        fields::small(given[3]),
+        fields::small(out, given[3]),
     );
 }
 
-fn ask_each(cases: &[u8]) {
-    crate::ask_each(Section::Openings, cases);
+fn ask_each(out: &impl Print, cases: &[u8]) {
+    crate::ask_each(out, Section::Openings, cases);
 }
 
 // "S from 8 to 65,536." "Table length not 4 to 4,096 or not a multiple of 4." "Redzone R in granules (2 to 256)",
 // "quarantine limit Q in bytes (any 32-bit number)". Last: "checked in number order."
-pub fn run() {
+pub fn run(out: &impl Print) {
     ask_each(
+        out,
         b"shadow of 0 granules|0 16 2 16;\
             shadow of 7 granules|7 16 2 16;\
             shadow of 8 granules|8 16 2 16;\
@@ -56,6 +73,7 @@ pub fn run() {
             shadow of 65,537 granules|65537 16 2 16;",
     );
     ask_each(
+        out,
         b"table of 0 numbers|16 0 2 16;\
             table of 3 numbers|16 3 2 16;\
             table of 4 numbers|16 4 2 16;\
@@ -67,6 +85,7 @@ pub fn run() {
             table of 4,100 numbers|16 4100 2 16;",
     );
     ask_each(
+        out,
         b"redzone of 0 granules|16 16 0 16;\
             redzone of 1 granule|16 16 1 16;\
             redzone of 2 granules|16 16 2 16;\
@@ -77,6 +96,7 @@ pub fn run() {
             quarantine of 2^32 - 1 bytes|16 16 2 4294967295;",
     );
     ask_each(
+        out,
         b"shadow, redzone and table wrong|7 5 1 16;\
             shadow and redzone wrong|7 16 1 16;\
             shadow and table wrong|7 5 2 16;\

@@ -2,8 +2,9 @@
 // to more than Q".
 use crate::feeds;
 
-pub fn run() {
+pub fn run(out: &impl Print) {
     feeds::ask_each(
+        out,
         b"release of address 0|16 4 2 16 27|010000000d00000000\n020000000000000000\n;\
             release of 0f, 11 and 18|16 4 2 16 53|010000000d00000000\n020000000f00000000\n020000001100000000\n\
             020000001800000000\n;\

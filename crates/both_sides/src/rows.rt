@@ -9,25 +9,35 @@ const NUMBERS: usize = ROW_NUMBERS * MOST_ROWS;
 const LAST_STATE: usize = NUMBERS - ROW_NUMBERS + STATE_COLUMN;
 
 // Of 1,024 rows, 1,023 are live and the last one is empty, since its state is 0. The block goes to address 10.
-fn most_rows() {
+fn most_rows(out: &impl Print) {
     let mut shadow = [0x7e; 16];
     let mut table = [7u32; NUMBERS];
     let opened = watcher::open(&mut shadow, &mut table, 2, 16);
     let mut live = [1u32; NUMBERS];
     live[LAST_STATE] = 0;
-    grant_and_release(opened.session, &mut shadow, &mut live);
+    grant_and_release(out, opened.session, &mut shadow, &mut live);
 }
 
-fn grant_and_release(session: Session, shadow: &mut [u8; 16], table: &mut [u32; NUMBERS]) {
-    print::begin(b"1,024 rows, the last one empty");
-    print::answer(b"grant ", watcher::grant(session, shadow, table, 1));
-    print::answer(b", grant ", watcher::grant(session, shadow, table, 1));
-    print::answer(b", release ", watcher::release(session, shadow, table, 16));
-    print::left(shadow, table);
+fn grant_and_release(
+    out: &impl Print,
+    session: Session,
+    shadow: &mut [u8; 16],
+    table: &mut [u32; NUMBERS],
+) {
+    print::begin(out, b"1,024 rows, the last one empty");
+    print::answer(out, b"grant ", watcher::grant(session, shadow, table, 1));
+    print::answer(out, b", grant ", watcher::grant(session, shadow, table, 1));
+    print::answer(
+        out,
+        b", release ",
+        watcher::release(session, shadow, table, 16),
+    );
+    print::left(out, shadow, table);
 }
 
-pub fn run() {
+pub fn run(out: &impl Print) {
     feeds::ask_each(
+        out,
         b"one row, a second grant|16 1 2 16 27|010000000100000000\n010000000100000000\n;\
             one row, no place|16 1 2 16 14|010000006100000000\n;\
             one row, neither row nor place|16 1 2 16 27|010000000100000000\n010000006100000000\n;\
@@ -35,5 +45,5 @@ pub fn run() {
             one row, a grant after an eviction|16 1 2 0 40|010000000100000000\n020000001000000000\n\
             010000000100000000\n;",
     );
-    most_rows();
+    most_rows(out);
 }

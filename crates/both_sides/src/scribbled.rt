@@ -5,6 +5,7 @@ use cases::tables::{NUMBERS, ROWS, table_of};
 use rules::Session;
 
 fn feed(
+    out: &impl Print,
     words: &[u8],
     session: Session,
     shadow: &mut [u8; 8],
@@ -14,10 +15,18 @@ fn feed(
 ) {
     let mut report = [b'.'; 80];
     if room <= 80 {
-        feeds::feed(words, session, shadow, table, piece, &mut report[0..room]);
+        feeds::feed(
+            out,
+            words,
+            session,
+            shadow,
+            table,
+            piece,
+            &mut report[0..room],
+        );
         return;
     }
-    show::not_asked();
+    show::not_asked(out);
 }
 
 fn session_with(quarantine: u32) -> Session {
@@ -38,16 +47,17 @@ fn shadow_of(bytes: &[u8]) -> [u8; 8] {
 }
 
 // Quarantine, room; shadow; rows; piece.
-pub fn ask(case: &[u8]) {
+pub fn ask(out: &impl Print, case: &[u8]) {
     let numbers = fields::rest(case);
-    let given = fields::numbers(numbers);
+    let given = fields::numbers(out, numbers);
     let found = fields::rest(numbers);
     let rows = fields::rest(found);
     let mut shadow = shadow_of(found);
     let mut table = table_of(rows, 0);
     feed(
+        out,
         fields::first(case),
-        session_with(fields::small(given[0])),
+        session_with(fields::small(out, given[0])),
         &mut shadow,
         &mut table,
         fields::rest(rows),
@@ -58,8 +68,9 @@ pub fn ask(case: &[u8]) {
 // "A row reaching past the shadow paints only granules that exist"; the sum of ffffffff and 1 is more than any Q. "A
 // state above 2 is neither empty nor held." "On equal turns the lower row leaves first"; an eviction lessens the turn
 // of a row in state 3 too. "Values 08 to 7f are never written; if found, no byte is addressable"; only fa is free.
-pub fn run() {
+pub fn run(out: &impl Print) {
     crate::ask_each(
+        out,
         Section::Scribbles,
         b"row past the end, kept|4294967295 14|\xfa\xfa\x00\xfa\xfd\xfa\xfd\xfa|2F10 0000 0000 0000|020000001000000000\
             \n;\
@@ -76,6 +87,7 @@ pub fn run() {
             a turn in state 3|0 14|\xfa\xfa\x00\xfa\xfd\xfa\xfd\xfa|2810 5834 0000 0000|020000001000000000\n;",
     );
     crate::ask_each(
+        out,
         Section::Scribbles,
         b"live and quarantined at one start|16 14|\xfa\xfa\x00\xfa\xfd\xfa\xfd\xfa|2822 2810 0000 0000|020000001000000\
             000\n;\

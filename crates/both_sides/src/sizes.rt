@@ -3,14 +3,22 @@ use crate::{Section, feeds, fields};
 use cases::{print, show};
 use rules::Session;
 
-fn grant(words: &[u8], session: Session, shadow: &mut [u8], table: &mut [u32], size: u32) {
+fn grant(
+    out: &impl Print,
+    words: &[u8],
+    session: Session,
+    shadow: &mut [u8],
+    table: &mut [u32],
+    size: u32,
+) {
     let answer = watcher::grant(session, shadow, table, size);
-    print::begin(words);
-    print::answer(b"", answer);
-    print::left(shadow, table);
+    print::begin(out, words);
+    print::answer(out, b"", answer);
+    print::left(out, shadow, table);
 }
 
 fn open_and_grant(
+    out: &impl Print,
     words: &[u8],
     shadow: &mut [u8],
     table: &mut [u32; 8],
@@ -18,35 +26,44 @@ fn open_and_grant(
     size: u32,
 ) {
     let opened = watcher::open(shadow, table, redzone, 16);
-    grant(words, opened.session, shadow, table, size);
+    grant(out, words, opened.session, shadow, table, size);
 }
 
-fn granted(words: &[u8], granules: usize, redzone: usize, size: u32) {
+fn granted(out: &impl Print, words: &[u8], granules: usize, redzone: usize, size: u32) {
     let mut shadow = [0x7e; 514];
     let mut table = [7u32; 8];
     if granules <= 514 {
-        open_and_grant(words, &mut shadow[0..granules], &mut table, redzone, size);
+        open_and_grant(
+            out,
+            words,
+            &mut shadow[0..granules],
+            &mut table,
+            redzone,
+            size,
+        );
         return;
     }
-    show::not_asked();
+    show::not_asked(out);
 }
 
 // Granules, redzone, size.
-pub fn ask(case: &[u8]) {
-    let given = fields::numbers(fields::rest(case));
+pub fn ask(out: &impl Print, case: &[u8]) {
+    let given = fields::numbers(out, fields::rest(case));
     granted(
+        out,
         fields::first(case),
         given[0],
         given[1],
-        fields::small(given[2]),
+        fields::small(out, given[2]),
     );
 }
 
 // 8 (S - 2R) bytes is the largest block; 2^32 - 1 bytes are 2^29 granules. The smallest shadow that takes one granule
 // has 2R + 1. With R of 2 that is below 8, so there five and four granules are what a first block leaves of eight, its
 // redzone shared.
-pub fn run() {
+pub fn run(out: &impl Print) {
     crate::ask_each(
+        out,
         Section::Grants,
         b"grant of 0 bytes|16 2 0;\
             grant of 1 byte|16 2 1;\
@@ -71,6 +88,7 @@ pub fn run() {
             S of 9, R of 4, grant of 1 byte|9 4 1;",
     );
     feeds::ask_each(
+        out,
         b"S of 8, R of 2, five granules left|8 4 2 16 27|010000000800000000\n010000000100000000\n;\
             S of 8, R of 2, four granules left|8 4 2 16 27|010000001000000000\n010000000100000000\n;",
     );

@@ -6,33 +6,29 @@ use crate::show;
 use rules::limits::ROW_NUMBERS;
 use rules::{CallAnswer, Fed, Session};
 
-pub fn begin(words: &[u8]) {
-    io::write_all(1, words);
-    io::write_all(1, b": ");
+pub fn begin(out: &impl Print, words: &[u8]) {
+    show::words(out, words);
+    show::words(out, b": ");
 }
 
-pub fn number(words: &[u8], number: usize) {
-    io::write_all(1, words);
-    io::print_decimal(1, number as u64);
-}
-
-fn decimal(number: u32) {
-    io::print_decimal(1, number as u64);
+pub fn number(out: &impl Print, words: &[u8], number: usize) {
+    show::words(out, words);
+    show::value(out, number);
 }
 
 // Two digits, and decimal: 24 is twenty-four.
-pub fn status(status: u8) {
-    io::print_decimal(1, status as u64 / 10);
-    io::print_decimal(1, status as u64 % 10);
+pub fn status(out: &impl Print, status: u8) {
+    show::value(out, format_args!("{status:02}"));
 }
 
 // "Status (2), kind (2), value (8)."
-pub fn answer(words: &[u8], answer: CallAnswer) {
-    io::write_all(1, words);
+pub fn answer(out: &impl Print, words: &[u8], answer: CallAnswer) {
+    show::words(out, words);
     let reply = answers::call_numbers_of(answer);
-    status(reply.status);
-    io::print_hex(1, reply.kind as u64, 2);
-    io::print_hex(1, reply.value as u64, 8);
+    status(out, reply.status);
+    let kind = reply.kind;
+    let value = reply.value;
+    show::value(out, format_args!("{kind:02x}{value:08x}"));
 }
 
 // A line feed would end the case's line, and neither a zero byte nor a carriage return can be seen.
@@ -45,59 +41,59 @@ fn seen(byte: u8) -> u8 {
     }
 }
 
-fn byte(byte: u8, hexadecimal: bool) {
+fn byte(out: &impl Print, byte: u8, hexadecimal: bool) {
     if hexadecimal {
-        io::print_hex(1, byte as u64, 2);
+        show::value(out, format_args!("{byte:02x}"));
     } else {
-        io::write_all(1, &[seen(byte)]);
+        show::words(out, &[seen(byte)]);
     }
 }
 
-fn each(bytes: &[u8], hexadecimal: bool) {
+fn each(out: &impl Print, bytes: &[u8], hexadecimal: bool) {
     let mut i = 0;
     while i < bytes.len() {
-        byte(bytes[i], hexadecimal);
+        byte(out, bytes[i], hexadecimal);
         i += 1;
     }
 }
 
-pub fn text(bytes: &[u8]) {
-    each(bytes, false);
+pub fn text(out: &impl Print, bytes: &[u8]) {
+    each(out, bytes, false);
 }
 
 // As the paper prints a shadow.
-pub fn bytes(bytes: &[u8]) {
-    each(bytes, true);
+pub fn bytes(out: &impl Print, bytes: &[u8]) {
+    each(out, bytes, true);
 }
 
 // Each field, in the paper's order.
-pub fn session(session: Session) {
-    number(b", session ", session.granules);
-    number(b" ", session.rows);
-    number(b" ", session.redzone);
-    io::write_all(1, b" ");
-    decimal(session.quarantine);
-    number(b" ", session.unfinished);
-    io::write_all(1, b" ");
+pub fn session(out: &impl Print, session: Session) {
+    number(out, b", session ", session.granules);
+    number(out, b" ", session.rows);
+    number(out, b" ", session.redzone);
+    show::words(out, b" ");
+    show::value(out, session.quarantine);
+    number(out, b" ", session.unfinished);
+    show::words(out, b" ");
     let line = session.line;
-    text(&line);
+    text(out, &line);
 }
 
 // What a feed answered, with the whole room, and the session that it handed back.
-pub fn fed(fed: Fed, room: &[u8]) {
-    status(fed.status);
-    number(b", taken ", fed.taken);
-    number(b", wrote ", fed.wrote);
-    io::write_all(1, b", room ");
-    text(room);
-    session(fed.session);
+pub fn fed(out: &impl Print, fed: Fed, room: &[u8]) {
+    status(out, fed.status);
+    number(out, b", taken ", fed.taken);
+    number(out, b", wrote ", fed.wrote);
+    show::words(out, b", room ");
+    text(out, room);
+    session(out, fed.session);
 }
 
-fn times(count: usize) {
-    io::write_all(1, b" ");
+fn times(out: &impl Print, count: usize) {
+    show::words(out, b" ");
     if 1 < count {
-        number(b"", count);
-        io::write_all(1, b"*");
+        number(out, b"", count);
+        show::words(out, b"*");
     }
 }
 
@@ -118,13 +114,13 @@ fn run_end(bytes: &[u8], from: usize) -> usize
     i
 }
 
-pub fn shadow(shadow: &[u8]) {
-    io::write_all(1, b", shadow");
+pub fn shadow(out: &impl Print, shadow: &[u8]) {
+    show::words(out, b", shadow");
     let mut at = 0;
     while at < shadow.len() {
         let end = run_end(shadow, at);
-        times(end - at);
-        byte(shadow[at], true);
+        times(out, end - at);
+        byte(out, shadow[at], true);
         at = end;
     }
 }
@@ -146,48 +142,48 @@ fn same_rows(table: &[u32], at: usize) -> bool {
     same
 }
 
-fn number_of(mark: &[u8], table: &[u32], at: usize, k: usize) {
+fn number_of(out: &impl Print, mark: &[u8], table: &[u32], at: usize, k: usize) {
     if at < table.len() {
         if k < table.len() - at {
-            io::write_all(1, mark);
-            decimal(table[at + k]);
+            show::words(out, mark);
+            show::value(out, table[at + k]);
         }
     }
 }
 
 // As many of its numbers as there are: a table may end within a row.
-fn row(table: &[u32], at: usize) {
-    number_of(b"(", table, at, 0);
+fn row(out: &impl Print, table: &[u32], at: usize) {
+    number_of(out, b"(", table, at, 0);
     let mut k = 1;
     while k < ROW_NUMBERS {
-        number_of(b",", table, at, k);
+        number_of(out, b",", table, at, k);
         k += 1;
     }
-    io::write_all(1, b")");
+    show::words(out, b")");
 }
 
-pub fn rows(table: &[u32]) {
-    io::write_all(1, b", rows");
+pub fn rows(out: &impl Print, table: &[u32]) {
+    show::words(out, b", rows");
     let whole = table.len() / ROW_NUMBERS;
     let mut first = 0;
     let mut i = 0;
     while i < whole {
         if !same_rows(table, ROW_NUMBERS * i) {
-            times(i - first + 1);
-            row(table, ROW_NUMBERS * i);
+            times(out, i - first + 1);
+            row(out, table, ROW_NUMBERS * i);
             first = i + 1;
         }
         i += 1;
     }
     if ROW_NUMBERS * whole < table.len() {
-        times(1);
-        row(table, ROW_NUMBERS * whole);
+        times(out, 1);
+        row(out, table, ROW_NUMBERS * whole);
     }
 }
 
 // The buffers that a call left, at the end of its line.
-pub fn left(found: &[u8], table: &[u32]) {
-    shadow(found);
-    rows(table);
-    show::end();
+pub fn left(out: &impl Print, found: &[u8], table: &[u32]) {
+    shadow(out, found);
+    rows(out, table);
+    show::end(out);
 }

@@ -44,12 +44,12 @@ pub fn table_of(line: &[u8], word: usize) -> [u32; NUMBERS] {
     table
 }
 
-pub fn same_rows(table: &[u32; NUMBERS], line: &[u8], word: usize) -> bool {
+pub fn same_rows(out: &impl Print, table: &[u32; NUMBERS], line: &[u8], word: usize) -> bool {
     let expected = table_of(line, word);
     let mut same = true;
     let mut i = 0;
     while i < NUMBERS {
-        same = same & show::same_number32(table[i], expected[i]);
+        same = same & show::same_number32(out, table[i], expected[i]);
         i += 1;
     }
     same
@@ -81,6 +81,6 @@ fn number_of(shadow: &[u8; 8]) -> u64 {
     number
 }
 
-pub fn same_shadow(shadow: &[u8; 8], line: &[u8], word: usize) -> bool {
-    show::same_number(number_of(shadow), text::number(line, word))
+pub fn same_shadow(out: &impl Print, shadow: &[u8; 8], line: &[u8], word: usize) -> bool {
+    show::same_number(out, number_of(shadow), text::number(out, line, word))
 }

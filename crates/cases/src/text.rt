@@ -56,10 +56,10 @@ fn digit(letter: u8) -> u64 {
 }
 
 // A number of up to 16 digits. A word that is not there is no number.
-pub fn number(line: &[u8], word: usize) -> u64 {
+pub fn number(out: &impl Print, line: &[u8], word: usize) -> u64 {
     let mut i = start_of(line, word);
     if i == line.len() {
-        show::not_asked();
+        show::not_asked(out);
     }
     let mut value = 0;
     while i < line.len() {
@@ -76,12 +76,12 @@ pub fn number(line: &[u8], word: usize) -> u64 {
     value
 }
 
-pub fn number32(line: &[u8], word: usize) -> u32 {
-    (number(line, word) % 0x1_0000_0000) as u32
+pub fn number32(out: &impl Print, line: &[u8], word: usize) -> u32 {
+    (number(out, line, word) % 0x1_0000_0000) as u32
 }
 
-pub fn number8(line: &[u8], word: usize) -> u8 {
-    (number(line, word) % 0x100) as u8
+pub fn number8(out: &impl Print, line: &[u8], word: usize) -> u8 {
+    (number(out, line, word) % 0x100) as u8
 }
 
 // How many bytes a word has, of two digits each: "." is a word of none.
@@ -115,13 +115,13 @@ pub fn bytes_of(line: &[u8], word: usize) -> [u8; 16] {
 
 // Whether the line is a case. One that begins with ":" has a name to be printed, an empty one ends the line of its
 // dots, and one that begins with "#" is for the reader.
-pub fn is_case(line: &[u8]) -> bool {
+pub fn is_case(out: &impl Print, line: &[u8]) -> bool {
     if line.len() == 0 {
-        show::end();
+        show::end(out);
         return false;
     }
     if line[0] == b':' {
-        show::begin(&line[1..]);
+        show::begin(out, &line[1..]);
         return false;
     }
     line[0] != b'#'

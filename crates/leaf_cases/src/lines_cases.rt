@@ -6,17 +6,17 @@ use cases::{show, text};
 use frames::lines;
 use rules::{Answer, Found, Frame};
 
-fn within(digits: &[u8]) -> Found {
+fn within(out: &impl Print, digits: &[u8]) -> Found {
     if digits.len() <= 16 {
         return hexadecimal::number(digits);
     }
-    show::not_asked();
+    show::not_asked(out);
     Found::Nothing
 }
 
-pub fn one_digit(line: &[u8]) {
-    let digit = [text::number8(line, 1)];
-    show::found(within(&digit), text::number(line, 2));
+pub fn one_digit(out: &impl Print, line: &[u8]) {
+    let digit = [text::number8(out, line, 1)];
+    show::found(out, within(out, &digit), text::number(out, line, 2));
 }
 
 // The byte that a letter stands for.
@@ -57,10 +57,14 @@ fn length_of(line: &[u8], word: usize) -> usize
     i
 }
 
-pub fn digits(line: &[u8]) {
+pub fn digits(out: &impl Print, line: &[u8]) {
     let letters = letters(line, 1);
     let length = length_of(line, 1);
-    show::found(within(&letters[0..length]), text::number(line, 2));
+    show::found(
+        out,
+        within(out, &letters[0..length]),
+        text::number(out, line, 2),
+    );
 }
 
 fn refused(answer: Answer) -> Three {
@@ -78,14 +82,17 @@ fn in_numbers(frame: Frame) -> Three {
     }
 }
 
-fn expected(line: &[u8]) -> Three {
-    let kind = text::number(line, 3);
-    let a = text::number(line, 4);
-    Three(kind, a, text::number(line, 5))
+fn expected(out: &impl Print, line: &[u8]) -> Three {
+    let kind = text::number(out, line, 3);
+    let a = text::number(out, line, 4);
+    Three(kind, a, text::number(out, line, 5))
 }
 
-pub fn frame_of_line(line: &[u8]) {
-    let length = text::number(line, 1) as usize;
+pub fn frame_of_line(out: &impl Print, line: &[u8]) {
+    let length = text::number(out, line, 1) as usize;
     let frame = lines::frame_of_line(length, letters(line, 2));
-    show::case(show::same_three(in_numbers(frame), expected(line)));
+    show::case(
+        out,
+        show::same_three(out, in_numbers(frame), expected(out, line)),
+    );
 }

@@ -4,34 +4,34 @@ use cases::{show, text};
 use rules::Verdict;
 use shadow::{byte, range};
 
-pub fn leading(line: &[u8]) {
-    let answered = byte::leading(text::number8(line, 1));
-    show::number(answered as u64, text::number(line, 2));
+pub fn leading(out: &impl Print, line: &[u8]) {
+    let answered = byte::leading(text::number8(out, line, 1));
+    show::number(out, answered as u64, text::number(out, line, 2));
 }
 
-fn reads(value: u8, expected: i8) {
+fn reads(out: &impl Print, value: u8, expected: i8) {
     let signed = byte::signed_byte(value);
     if signed == expected {
-        return show::case(true);
+        return show::case(out, true);
     }
     if signed < expected {
-        io::write_all(1, b" [got less]");
+        show::words(out, b" [got less]");
     } else {
-        io::write_all(1, b" [got more]");
+        show::words(out, b" [got more]");
     }
 }
 
 // "The byte is read as a signed byte": from 80 on it is 256 less.
-pub fn signed_byte() {
-    reads(0x00, 0);
-    reads(0x7f, 127);
-    reads(0x80, -128);
-    reads(0xff, -1);
+pub fn signed_byte(out: &impl Print) {
+    reads(out, 0x00, 0);
+    reads(out, 0x7f, 127);
+    reads(out, 0x80, -128);
+    reads(out, 0xff, -1);
 }
 
-pub fn poisoned(line: &[u8]) {
-    let answered = byte::poisoned(text::number8(line, 1));
-    show::number(answered as u64, text::number(line, 2));
+pub fn poisoned(out: &impl Print, line: &[u8]) {
+    let answered = byte::poisoned(text::number8(out, line, 1));
+    show::number(out, answered as u64, text::number(out, line, 2));
 }
 
 // 00 and zeros for a good range, or 09, the kind and the first bad byte.
@@ -42,21 +42,21 @@ fn in_numbers(verdict: Verdict) -> Three {
     }
 }
 
-fn judged(shadow: &[u8], line: &[u8]) -> Three {
-    let address = text::number32(line, 2);
-    let length = text::number32(line, 3);
+fn judged(out: &impl Print, shadow: &[u8], line: &[u8]) -> Three {
+    let address = text::number32(out, line, 2);
+    let length = text::number32(out, line, 3);
     in_numbers(range::judge(shadow, address, length))
 }
 
-fn expected(line: &[u8]) -> Three {
-    let status = text::number(line, 4);
-    let kind = text::number(line, 5);
-    Three(status, kind, text::number(line, 6))
+fn expected(out: &impl Print, line: &[u8]) -> Three {
+    let status = text::number(out, line, 4);
+    let kind = text::number(out, line, 5);
+    Three(status, kind, text::number(out, line, 6))
 }
 
-pub fn judge(line: &[u8]) {
+pub fn judge(out: &impl Print, line: &[u8]) {
     let shadow = text::bytes_of(line, 1);
     let granules = text::bytes_in(line, 1);
-    let answered = judged(&shadow[0..granules], line);
-    show::case(show::same_three(answered, expected(line)));
+    let answered = judged(out, &shadow[0..granules], line);
+    show::case(out, show::same_three(out, answered, expected(out, line)));
 }

@@ -2,44 +2,44 @@
 use crate::{paint_cases, place_cases, range_cases};
 use cases::{show, text};
 
-pub fn one(line: &[u8]) {
+pub fn one(out: &impl Print, line: &[u8]) {
     let what = text::letter(line, 0, 1);
     if what == b'l' {
-        return range_cases::leading(line);
+        return range_cases::leading(out, line);
     }
     if what == b's' {
-        return range_cases::signed_byte();
+        return range_cases::signed_byte(out);
     }
     if what == b'n' {
-        return range_cases::poisoned(line);
+        return range_cases::poisoned(out, line);
     }
     if what == b'j' {
-        return range_cases::judge(line);
+        return range_cases::judge(out, line);
     }
-    room_or_paint(line, what);
+    room_or_paint(out, line, what);
 }
 
-fn room_or_paint(line: &[u8], what: u8) {
+fn room_or_paint(out: &impl Print, line: &[u8], what: u8) {
     if what == b'f' {
-        return place_cases::in_free(line);
+        return place_cases::in_free(out, line);
     }
     if what == b'p' {
-        return place_cases::in_part(line);
+        return place_cases::in_part(out, line);
     }
     if what == b'w' {
-        return place_cases::in_longest(line);
+        return place_cases::in_longest(out, line);
     }
     if what == b'x' {
-        return place_cases::in_scattered(line);
+        return place_cases::in_scattered(out, line);
     }
     if what == b'g' {
-        return paint_cases::granules_of(line);
+        return paint_cases::granules_of(out, line);
     }
     if what == b't' {
-        return paint_cases::grant(line);
+        return paint_cases::grant(out, line);
     }
     if what == b'r' {
-        return paint_cases::row(line);
+        return paint_cases::row(out, line);
     }
-    show::not_asked();
+    show::not_asked(out);
 }
