@@ -75,36 +75,35 @@ fn part_end(piece: &[u8], at: usize, explain: bool) -> usize
 
 // A feed that is refused, takes nothing, or says that it took or wrote more than there is: none of these can be, by its
 // contract and the room that is lent.
-fn not_taken(run: Run, status: u8) -> Run
+fn not_taken(err: &impl Print, run: Run, status: u8) -> Run
     ensures { result.whole ≡ false }
 {
-    say::text(b"kinkhost: the watcher does not take the trace, ");
-    say::status(status);
-    say::text(b"\n");
+    say::text(err, b"kinkhost: the watcher does not take the trace, ");
+    say::status(err, status);
+    say::text(err, b"\n");
     stopped(run)
 }
 
 // What a feed answered of so many bytes: its report is written and counted.
-fn after(run: Run, fed: Fed, offered: usize, room: &[u8]) -> Run
+fn after(out: &impl Print, err: &impl Print, run: Run, fed: Fed, offered: usize, room: &[u8]) -> Run
     ensures { result.whole ≡ true → Kept run fed offered room.now result }
 {
     let taken = fed.taken;
     let wrote = fed.wrote;
     if fed.status != 0 {
-        return not_taken(run, fed.status);
+        return not_taken(err, run, fed.status);
     }
     if taken == 0 {
-        return not_taken(run, fed.status);
+        return not_taken(err, run, fed.status);
     }
     if offered < taken {
-        return not_taken(run, fed.status);
+        return not_taken(err, run, fed.status);
     }
     if room.len() < wrote {
-        return not_taken(run, fed.status);
+        return not_taken(err, run, fed.status);
     }
-    let written = io::write_all(1, &room[0..wrote]);
-    if !written {
-        os::fail(b"kinkhost: the report cannot be written");
+    if let Err(error) = out.write_all(&room[0..wrote]) {
+        say::failure(err, b"kinkhost: the report cannot be written", error);
         return stopped(run);
     }
     let session = fed.session;
@@ -121,33 +120,49 @@ fn after(run: Run, fed: Fed, offered: usize, room: &[u8]) -> Run
 }
 
 // A line feed that is offered alone has one answer, which the room begins with.
-fn explained(run: Run, asked: Session, part: &[u8], room: &[u8]) {
+fn explained(err: &impl Print, run: Run, asked: Session, part: &[u8], room: &[u8]) {
     if !run.explain | !run.whole {
         return;
     }
     if part.len() == 1 {
         if part[0] == LINE_FEED {
             let tally = run.tally;
-            explain::answered(tally.lines, asked, room);
+            explain::answered(err, tally.lines, asked, room);
         }
     }
 }
 
 // A part of the trace is offered once.
-fn feed(run: Run, shadow: &mut [u8], table: &mut [u32], part: &[u8], room: &mut [u8]) -> Run
+fn feed(
+    out: &impl Print,
+    err: &impl Print,
+    run: Run,
+    shadow: &mut [u8],
+    table: &mut [u32],
+    part: &[u8],
+    room: &mut [u8],
+) -> Run
     ensures { result.whole ≡ true
         → Taken run shadow.old table.old part.now result shadow.new
         table.new }
 {
     let asked = run.session;
     let fed = watcher::feed(asked, shadow, table, part, room);
-    let next = after(run, fed, part.len(), room);
-    explained(next, asked, part, room);
+    let next = after(out, err, run, fed, part.len(), room);
+    explained(err, next, asked, part, room);
     next
 }
 
 // All of a piece. Where all of it was written, session, shadow, table and tally are those of the rules over the piece.
-pub fn all(run: Run, shadow: &mut [u8], table: &mut [u32], piece: &[u8], room: &mut [u8]) -> Run
+pub fn all(
+    out: &impl Print,
+    err: &impl Print,
+    run: Run,
+    shadow: &mut [u8],
+    table: &mut [u32],
+    piece: &[u8],
+    room: &mut [u8],
+) -> Run
     ensures { result.whole ≡ true
         → Leads run shadow.old table.old piece.now result shadow.new
         table.new }
@@ -156,7 +171,7 @@ pub fn all(run: Run, shadow: &mut [u8], table: &mut [u32], piece: &[u8], room: &
     let mut at = 0;
     while at < piece.len() {
         let to = part_end(piece, at, run.explain);
-        run = feed(run, shadow, table, &piece[at..to], room);
+        run = feed(out, err, run, shadow, table, &piece[at..to], room);
         if !run.whole {
             return run;
         }

@@ -6,48 +6,58 @@ ghost use Rattle.offers.specs.Offer.{left, Ends};
 use crate::offer::Run;
 use rules::Session;
 use speech::{say, words};
+use std::fs::OpenFile;
+use std::rt::Files;
+use std::{fs, io};
 use tally::Tally;
 
-// EDQUOT, which the kit's list leaves out.
+// What the report is written to, by the system's name for it.
+const REPORT: &str = "/dev/stdout";
+
+// EIO, ENOSPC and EDQUOT.
+const INPUT_OUTPUT: i32 = 5;
+
+const NO_SPACE: i32 = 28;
+
 const OVER_QUOTA: i32 = 122;
 
-fn answers(status: u8, count: u64) {
+fn answers(err: &impl Print, status: u8, count: u64) {
     if count == 0 {
         return;
     }
-    say::text(b"  ");
-    say::status(status);
-    say::text(b": ");
-    say::number(count);
-    say::text(b", ");
-    words::of(status);
-    say::text(b"\n");
+    say::text(err, b"  ");
+    say::status(err, status);
+    say::text(err, b": ");
+    say::number(err, count);
+    say::text(err, b", ");
+    words::of(err, status);
+    say::text(err, b"\n");
 }
 
-fn by_number(counts: [u64; 10]) {
+fn by_number(err: &impl Print, counts: [u64; 10]) {
     let mut i = 0;
     while i < 10 {
-        answers(i as u8, counts[i]);
+        answers(err, i as u8, counts[i]);
         i += 1;
     }
 }
 
 // The line that a reader looks for.
-fn outcome(tally: Tally, left: u32) {
+fn outcome(err: &impl Print, tally: Tally, left: u32) {
     if tally.first != 0 {
-        say::text(b"first line not done: ");
-        say::number(tally.first);
-        say::text(b", answered ");
-        say::status(tally.answered);
-        say::text(b"\n");
+        say::text(err, b"first line not done: ");
+        say::number(err, tally.first);
+        say::text(err, b", answered ");
+        say::status(err, tally.answered);
+        say::text(err, b"\n");
         return;
     }
     if tally.lines != 0 {
-        say::text(b"every line was done\n");
+        say::text(err, b"every line was done\n");
         return;
     }
     if left == 0 {
-        say::text(b"the trace is empty\n");
+        say::text(err, b"the trace is empty\n");
     }
 }
 
@@ -63,65 +73,82 @@ fn unfinished(session: Session) -> u32
 }
 
 // "An unfinished line is never acted on."
-fn not_acted_on(length: u32) {
+fn not_acted_on(err: &impl Print, length: u32) {
     if length == 0 {
         return;
     }
-    say::text(b"the trace ends in an unfinished line of ");
-    say::count(length as u64, b"byte");
+    say::text(err, b"the trace ends in an unfinished line of ");
+    say::count(err, length as u64, b"byte");
     if length == 19 {
-        say::text(b" or more");
+        say::text(err, b" or more");
     }
-    say::text(b", which was not acted on\n");
+    say::text(err, b", which was not acted on\n");
 }
 
-fn lines(count: u64) {
-    say::text(b"kinkhost: ");
-    say::count(count, b"line");
+fn lines(err: &impl Print, count: u64) {
+    say::text(err, b"kinkhost: ");
+    say::count(err, count, b"line");
 }
 
 // Each ten thousand lines, on one line of a terminal, over which the next words are written.
-pub fn progress(run: Run, before: u64) {
+pub fn progress(err: &impl Print, run: Run, before: u64) {
     let tally = run.tally;
     if run.progress & run.whole {
         if before / 10_000 < tally.lines / 10_000 {
-            lines(tally.lines);
-            say::text(b"\r");
+            lines(err, tally.lines);
+            say::text(err, b"\r");
         }
     }
 }
 
-// Whether the report has reached its file, since a disk may be found full only then. What is no file has nothing to
+// Waits until the report has reached its file, since a disk may be found full only then. What is no file has nothing to
 // reach.
-fn reached() -> bool {
-    if libc::fsync(1) == 0 {
-        return true;
+fn reach(files: &impl Files) -> io::Result<()> {
+    if fs::metadata(files, REPORT)?.is_file() {
+        return fs::open(files, REPORT)?.sync_all();
     }
-    let error = os::errno();
-    (error != libc::EIO) & (error != libc::ENOSPC) & (error != OVER_QUOTA)
+    Ok(())
+}
+
+// Whether an error says that the file has lost some of the report. That there is no waiting for it says nothing.
+fn is_lost(error: io::Error) -> bool {
+    matches!(
+        error.raw_os_error(),
+        Some(INPUT_OUTPUT | NO_SPACE | OVER_QUOTA)
+    )
+}
+
+// Whether the report has reached its file; that it has not is said.
+fn reached(files: &impl Files, err: &impl Print) -> bool {
+    match reach(files) {
+        Err(error) if is_lost(error) => {
+            say::failure(err, b"kinkhost: the report cannot be written", error);
+            false
+        }
+        _ => true,
+    }
 }
 
 // 0: every line was done. 1: some line was not, or the last one is unfinished. 2: an error, which has been said.
-pub fn verdict(run: Run) -> u8
+pub fn verdict(files: &impl Files, err: &impl Print, run: Run) -> u8
     ensures { Ends run result }
 {
     let whole = run.whole;
     if !whole {
         return 2;
     }
-    let kept = reached();
+    let kept = reached(files, err);
     if !kept {
-        os::fail(b"kinkhost: the report cannot be written");
         return 2;
     }
     let tally = run.tally;
     let counts = tally.answers;
     let session = run.session;
-    lines(tally.lines);
-    say::text(b"\n");
-    by_number(counts);
+    lines(err, tally.lines);
+    say::text(err, b"\n");
+    by_number(err, counts);
     let left = unfinished(session);
-    not_acted_on(left);
-    outcome(tally, left);
+    not_acted_on(err, left);
+    outcome(err, tally, left);
     tally::verdict(tally, left)
 }

@@ -9,6 +9,8 @@ use offers::{offer, summary};
 use options::Options;
 use rules::Opened;
 use speech::{say, words};
+use std::io::Read;
+use std::rt::Files;
 
 // One more than the paper allows, so that it is the watcher that refuses what is too long.
 const SHADOW_BYTES: usize = 65_537;
@@ -18,49 +20,64 @@ const TABLE_NUMBERS: usize = 4_100;
 const PIECE_BYTES: usize = 65_536;
 
 // Reads once, and offers what came.
-fn turn(run: Run, shadow: &mut [u8], table: &mut [u32], piece: &mut [u8], room: &mut [u8]) -> Run {
-    let got = libc::read(0, piece);
-    if got < 0 {
-        os::fail(b"kinkhost: the trace cannot be read");
-        return offer::stopped(run);
-    }
-    if got == 0 {
+fn turn(
+    input: &mut impl Read,
+    out: &impl Print,
+    err: &impl Print,
+    run: Run,
+    shadow: &mut [u8],
+    table: &mut [u32],
+    piece: &mut [u8],
+    room: &mut [u8],
+) -> Run {
+    let length = match input.read(piece) {
+        Ok(length) => length,
+        Err(error) => {
+            say::failure(err, b"kinkhost: the trace cannot be read", error);
+            return offer::stopped(run);
+        }
+    };
+    if length == 0 {
         return offer::ended(run);
     }
-    let length = io::count(got, piece);
     let tally = run.tally;
-    let next = offer::all(run, shadow, table, &piece[..length], room);
-    summary::progress(next, tally.lines);
+    let next = offer::all(out, err, run, shadow, table, &piece[..length], room);
+    summary::progress(err, next, tally.lines);
     next
 }
 
 // Nothing says that a trace ends, so the turns are counted down, from a number that no trace uses up.
 fn turns(
+    rt: &(impl Input + Print),
+    err: &impl Print,
     begun: Run,
     shadow: &mut [u8],
     table: &mut [u32],
     piece: &mut [u8],
     room: &mut [u8],
 ) -> Run {
+    let mut input = rt.reader();
     let mut run = begun;
     let mut left = u64::MAX;
     while left > 0 && run.going {
-        run = turn(run, shadow, table, piece, room);
+        run = turn(&mut input, rt, err, run, shadow, table, piece, room);
         left -= 1;
     }
     run
 }
 
-fn refused(opened: Opened) -> u8 {
-    say::text(b"kinkhost: opening refused, ");
-    say::status(opened.status);
-    say::text(b": ");
-    words::of(opened.status);
-    say::text(b"\n");
+fn refused(err: &impl Print, opened: Opened) -> u8 {
+    say::text(err, b"kinkhost: opening refused, ");
+    say::status(err, opened.status);
+    say::text(err, b": ");
+    words::of(err, opened.status);
+    say::text(err, b"\n");
     2
 }
 
 fn replay(
+    rt: &(impl Input + Print + Files),
+    err: &impl Print,
     options: Options,
     shadow: &mut [u8],
     table: &mut [u32],
@@ -69,14 +86,14 @@ fn replay(
 ) -> u8 {
     let opened = watcher::open(shadow, table, options.redzone, options.quarantine);
     if opened.status != 0 {
-        return refused(opened);
+        return refused(err, opened);
     }
     let begun = offer::begun(opened.session, options.explain, options.progress);
-    summary::verdict(turns(begun, shadow, table, piece, room))
+    summary::verdict(rt, err, turns(rt, err, begun, shadow, table, piece, room))
 }
 
 // The buffers, as long as the options ask.
-fn with_buffers(options: Options) -> u8 {
+fn with_buffers(rt: &(impl Input + Print + Files), err: &impl Print, options: Options) -> u8 {
     let mut shadow = [0u8; SHADOW_BYTES];
     let mut table = [0u32; TABLE_NUMBERS];
     let mut piece = [0u8; PIECE_BYTES];
@@ -86,6 +103,8 @@ fn with_buffers(options: Options) -> u8 {
     let taken = options::at_most(options.piece, PIECE_BYTES);
     let lent = options::at_most(options.room, PIECE_BYTES);
     replay(
+        rt,
+        err,
         options,
         &mut shadow[0..granules],
         &mut table[0..numbers],
@@ -94,15 +113,17 @@ fn with_buffers(options: Options) -> u8 {
     )
 }
 
-fn main() {
-    let options = options::given();
+fn main(rt: HostRuntime) {
+    let err = rt.stderr();
+    let options = options::given(&rt);
     if !options.right {
         say::text(
+            &err,
             b"kinkhost: replay takes nine numbers: granules redzone quarantine rows piece room explain progress \
             verdict\n",
         );
-        options::tell(options, 2);
+        options::tell(&rt, options, 2);
         return;
     }
-    options::tell(options, with_buffers(options));
+    options::tell(&rt, options, with_buffers(&rt, &err, options));
 }

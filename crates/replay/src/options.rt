@@ -2,6 +2,10 @@
 ghost use Rattle.std.specs.Prelude.{◌≤◌};
 
 use rules::limits::ANSWER_BYTES;
+use std::fs::OpenOptions;
+use std::io;
+use std::io::Write;
+use std::rt::{Env, Files};
 
 #[derive(Clone, Copy)]
 pub struct Options {
@@ -56,18 +60,17 @@ fn decimal(text: &[u8]) -> Number {
     Number { right: true, value }
 }
 
-fn argument(i: usize) -> Number {
+fn argument(env: &impl Env, i: usize) -> Number {
     let mut text = [0u8; 32];
-    let length = os::arg(i, &mut text);
-    if os::errno() != 0 {
-        return NONE;
+    match env.arg(i, &mut text) {
+        Ok(length) => decimal(&text[..length]),
+        Err(_) => NONE,
     }
-    decimal(&text[..length])
 }
 
 // The argument, where it lies within these.
-fn between(i: usize, least: u64, most: u64) -> Number {
-    let number = argument(i);
+fn between(env: &impl Env, i: usize, least: u64, most: u64) -> Number {
+    let number = argument(env, i);
     let right = number.right & (least <= number.value) & (number.value <= most);
     Number {
         right,
@@ -84,17 +87,17 @@ pub fn at_most(number: usize, most: usize) -> usize
     most
 }
 
-pub fn given() -> Options {
-    let granules = between(1, 0, u64::MAX);
-    let redzone = between(2, 0, u64::MAX);
-    let quarantine = between(3, 0, 0xffff_ffff);
-    let rows = between(4, 0, u64::MAX);
-    let piece = between(5, 1, 65_536);
+pub fn given(env: &impl Env) -> Options {
+    let granules = between(env, 1, 0, u64::MAX);
+    let redzone = between(env, 2, 0, u64::MAX);
+    let quarantine = between(env, 3, 0, 0xffff_ffff);
+    let rows = between(env, 4, 0, u64::MAX);
+    let piece = between(env, 5, 1, 65_536);
     // an answer's bytes at least, or a line feed would never be taken
-    let room = between(6, ANSWER_BYTES as u64, 65_536);
-    let explain = between(7, 0, 1);
-    let progress = between(8, 0, 1);
-    let verdict = between(9, 0, 9);
+    let room = between(env, 6, ANSWER_BYTES as u64, 65_536);
+    let explain = between(env, 7, 0, 1);
+    let progress = between(env, 8, 0, 1);
+    let verdict = between(env, 9, 0, 9);
     let pool = granules.right & redzone.right & quarantine.right & rows.right;
     let cutting = piece.right & room.right;
     Options {
@@ -111,9 +114,31 @@ pub fn given() -> Options {
     }
 }
 
-// The verdict, to whoever asked for it: a program has no exit status.
-pub fn tell(options: Options, verdict: u8) {
+// The system's names for the descriptors.
+const DESCRIPTORS: [&str; 10] = [
+    "/dev/fd/0",
+    "/dev/fd/1",
+    "/dev/fd/2",
+    "/dev/fd/3",
+    "/dev/fd/4",
+    "/dev/fd/5",
+    "/dev/fd/6",
+    "/dev/fd/7",
+    "/dev/fd/8",
+    "/dev/fd/9",
+];
+
+fn write(files: &impl Files, path: &str, bytes: &[u8]) -> io::Result<()> {
+    OpenOptions::new()
+        .append(true)
+        .open(files, path)?
+        .write_all(bytes)
+}
+
+// The verdict, to whoever asked for it. The exit status is 0 whatever the verdict is.
+pub fn tell(files: &impl Files, options: Options, verdict: u8) {
     if 0 < options.verdict {
-        io::write_all(options.verdict, &[b'0' + verdict % 10, b'\n']);
+        let path = DESCRIPTORS[options.verdict as usize % 10];
+        let _ = write(files, path, &[b'0' + verdict % 10, b'\n']);
     }
 }
