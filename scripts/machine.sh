@@ -2,7 +2,7 @@
 # What this machine is, for the launcher and the tests: where the Rattle kit stands, how a program for
 # x86-64 is run here, which compilers there are. To be sourced, with root set to the repository's folder.
 
-# Prints the kit's folder, in which rt finds its own guide: docs/START-HERE.md.
+# Prints the kit's folder, in which rt finds its own guide: START-HERE.md, which older kits have in docs/.
 kit() {
     if ! command -v rt >/dev/null 2>&1; then
         echo "kinkhost: rt is not on the PATH: the Rattle kit is needed here" >&2
@@ -10,7 +10,8 @@ kit() {
     fi
     guide=$(rt doc) || return 2
     case $guide in
-    */docs/*) printf '%s\n' "${guide%/docs/*}" ;;
+    */docs/START-HERE.md) printf '%s\n' "${guide%/docs/*}" ;;
+    */START-HERE.md) printf '%s\n' "${guide%/*}" ;;
     *)
         echo "kinkhost: rt doc does not say where the kit is: $guide" >&2
         return 2

@@ -3,7 +3,7 @@
 # be sourced, with root set to the repository's folder and part to the test's name.
 # shellcheck source=scripts/machine.sh
 . "${root:?}/scripts/machine.sh"
-archive=$root/target/staticlib/libkinkhost.a
+archive=$root/crates/kinkhost/out/libkinkhost.a
 work=$(mktemp -d) || exit 1
 trap 'rm -rf "$work"' EXIT
 trap 'exit 1' HUP INT TERM
@@ -13,7 +13,7 @@ cases=0
 failed=0
 
 if [ ! -f "$archive" ]; then
-    echo "${part:?}: target/staticlib/libkinkhost.a is missing: rt staticlib kinkhost writes it" >&2
+    echo "${part:?}: $archive is missing: rt lib in crates/kinkhost writes it" >&2
     exit 1
 fi
 

@@ -1,7 +1,7 @@
 /* Judges a trace from C: reads it from standard input in small pieces and writes the report to standard output, over
  * buffers that this program owns. Then it shows the direct calls, on standard error, over buffers of their own.
  *
- *     cc -std=c11 -I include examples/c/judge.c target/staticlib/libkinkhost.a -o judge
+ *     cc -std=c11 -I include examples/c/judge.c crates/kinkhost/out/libkinkhost.a -o judge
  *     ./judge < examples/night.trace
  *
  * Status 0: every line was done. 1: some line was not, or the trace ends in an unfinished line. 2: the trace could not
