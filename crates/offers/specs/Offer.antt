@@ -3,8 +3,7 @@
 use Rattle.std.specs.Prelude.{ℕ, ◌<◌, ◌≤◌, true, false, ◌≡◌, List, length, take, eqb}
 use Rattle.rules.specs.declared.Session.{Session}
 use Rattle.rules.specs.declared.Fed.{Fed}
-use Rattle.rules.specs.Release.{Pool}
-use Rattle.rules.specs.Feed.{State, run}
+use Rattle.rules.specs.Feed.{run}
 use Rattle.rules.specs.Limits.{too_long}
 use Rattle.rules.specs.declared.Reply.{Reply}
 use Rattle.rules.specs.Answers.{call_in_numbers}

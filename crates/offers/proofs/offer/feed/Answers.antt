@@ -1,0 +1,6 @@
+-- What the watcher says of the feed, with what is kept of it.
+use Rattle.offers.proofs.Pieces.{kept_taken}
+use Rattle.offers.proofs.offer.feed.Goals as goal
+
+pub returns : goal.returns
+returns g c whole = kept_taken _ c.feed-fed.ensures (c.after-next.ensures whole)
