@@ -36,8 +36,7 @@ loop-row-preserved c =
     let loop = c.loop-row in
     let table = c.args.table.now in
     let is-not : is_empty table loop.row ≡ false =
-    ne_eqb (state table loop.row) empty (λ e. c.if-number-eq-EMPTY.false (c.number.ensures ∙ e)) in
-    (
+    ne_eqb (state table loop.row) empty (λ e. c.if-number-eq-EMPTY.false (c.number.ensures ∙ e)) in (
       omega arith,
       loop.invariant.1 ∙ walk_on (is_empty table) (length table / row_numbers) loop.row (omega arith) is-not,
     )
