@@ -1,7 +1,7 @@
 /* Kinkhost: a watcher for a fixed memory pool, judging grants, releases, reads and writes by the published rules of
- * AddressSanitizer. Link libkinkhost.a (`rt staticlib kinkhost` writes it to target/staticlib/), an x86-64 archive that
- * keeps no state, allocates nothing and calls nothing but memset: all that it works on is lent by the caller, call by
- * call.
+ * AddressSanitizer. Link libkinkhost.a (`rt lib` in crates/kinkhost writes it to crates/kinkhost/out/), an x86-64 archive
+ * that keeps no state, allocates nothing and calls nothing but memset: all that it works on is lent by the caller, call
+ * by call.
  *
  * The pool is an arena of 8 x S bytes, which is never looked at: addresses are offsets from its first byte, and a
  * granule is 8 bytes at a multiple of 8. The caller owns
