@@ -7,6 +7,7 @@ use crate::offer::Run;
 use rules::Session;
 use speech::{say, words};
 use std::fs::OpenFile;
+use std::os::unix::fs::FileTypeExt;
 use std::rt::Files;
 use std::{fs, io};
 use tally::Tally;
@@ -104,7 +105,8 @@ pub fn progress(err: &impl Print, run: Run, before: u64) {
 // Waits until the report has reached its file, since a disk may be found full only then. What is no file has nothing to
 // reach.
 fn reach(files: &impl Files) -> io::Result<()> {
-    if fs::metadata(files, REPORT)?.is_file() {
+    let kind = fs::metadata(files, REPORT)?.file_type();
+    if kind.is_file() | kind.is_block_device() {
         return fs::open(files, REPORT)?.sync_all();
     }
     Ok(())

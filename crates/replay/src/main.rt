@@ -122,8 +122,8 @@ fn main(rt: HostRuntime) {
             b"kinkhost: replay takes nine numbers: granules redzone quarantine rows piece room explain progress \
             verdict\n",
         );
-        options::tell(&rt, options, 2);
+        options::tell(&rt, &err, options, 2);
         return;
     }
-    options::tell(&rt, options, with_buffers(&rt, &err, options));
+    options::tell(&rt, &err, options, with_buffers(&rt, &err, options));
 }

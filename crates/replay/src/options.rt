@@ -136,9 +136,14 @@ fn write(files: &impl Files, path: &str, bytes: &[u8]) -> io::Result<()> {
 }
 
 // The verdict, to whoever asked for it. The exit status is 0 whatever the verdict is.
-pub fn tell(files: &impl Files, options: Options, verdict: u8) {
-    if 0 < options.verdict {
-        let path = DESCRIPTORS[options.verdict as usize % 10];
-        let _ = write(files, path, &[b'0' + verdict % 10, b'\n']);
+pub fn tell(rt: &(impl Print + Files), err: &impl Print, options: Options, verdict: u8) {
+    let words = [b'0' + verdict % 10, b'\n'];
+    if options.verdict <= 0 {
+        return;
     }
+    let _ = match options.verdict {
+        1 => rt.write_all(&words),
+        2 => err.write_all(&words),
+        n => write(rt, DESCRIPTORS[n as usize % 10], &words),
+    };
 }
