@@ -1,11 +1,11 @@
 -- From a program's calls to demand 3: its feeds are a chain of the rules, the chain runs the bytes that it took, and
 -- those bytes from the program's opening are a replay, of which the demands are proved. Assumes nothing.
 use Prim.Native.Nat.{ℕ}
-use mathlib.Core.Path.{◌≡◌, refl, sym, ap, ap₂, subst, ◌∙◌}
-use mathlib.Core.List.{List, [], ◌∷◌, ◌++◌, append-nil}
+use mathlib.Core.Path.{◌≡◌, sym, ap, ap₂, subst, ◌∙◌}
+use mathlib.Core.List.{List, ◌∷◌, ◌++◌, append-nil}
 use lib.ListN.{length}
 use Rattle.rules.specs.Release.{Pool}
-use Rattle.rules.specs.Feed.{State, Ran, run}
+use Rattle.rules.specs.Feed.{Ran}
 use Rattle.rules.specs.Watcher.{watcher}
 use Rattle.rules.specs.Calls.{OpenedWith, open_with}
 use Rattle.promises.specs.History.{Exchange, exchanges, nothing_yet}
@@ -19,7 +19,7 @@ use Rattle.promises.proofs.Replay.{every_line}
 use Rattle.promises.proofs.Accesses.{reported, first_bad_byte}
 use Rattle.promises.proofs.Quarantine.{separation, quarantine, not_again}
 use Rattle.joined.specs.Program.{Program}
-use Rattle.joined.specs.Upheld.{begun, log, in_quarantine, Upheld, Upholds}
+use Rattle.joined.specs.Upheld.{begun, log, in_quarantine, Upholds}
 use Rattle.joined.proofs.Program.{all_chain}
 
 -- the program's opening, and that what it left is that opening's state
