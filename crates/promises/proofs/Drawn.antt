@@ -133,12 +133,12 @@ unfolding drawn
 length_drawn table zero g = refl
 length_drawn table (suc n) g = ap suc (length_drawn table n (suc g))
 
-getD_drawn : (table : List ℕ) (n g k : ℕ) → k < n → get_or (drawn table n g) k 0 ≡ drawn_byte table (g + k)
+get_or_drawn : (table : List ℕ) (n g k : ℕ) → k < n → get_or (drawn table n g) k 0 ≡ drawn_byte table (g + k)
 unfolding drawn
-getD_drawn table zero g k below = absurd (omega arith)
-getD_drawn table (suc n) g zero below = ap (drawn_byte table) (sym (add-zero g))
-getD_drawn table (suc n) g (suc k) below =
-    getD_drawn table n (suc g) k (omega arith)
+get_or_drawn table zero g k below = absurd (omega arith)
+get_or_drawn table (suc n) g zero below = ap (drawn_byte table) (sym (add-zero g))
+get_or_drawn table (suc n) g (suc k) below =
+    get_or_drawn table n (suc g) k (omega arith)
     ∙ ap (drawn_byte table) (let e : suc g + k ≡ g + suc k = omega arith in e)
 
 module _ {S R : ℕ} {shadow table : List ℕ} (laid : Laid S R shadow table) where
@@ -168,7 +168,7 @@ module _ {S R : ℕ} {shadow table : List ℕ} (laid : Laid S R shadow table) wh
       (λ k below.
       let in_arena : k < S = omega (arith, laid.of_shadow) in
       drawn_at k in_arena ∙ ap (drawn_byte table) (let e : k ≡ 0 + k = omega arith in e)
-      ∙ sym (getD_drawn table S 0 k in_arena))
+      ∙ sym (get_or_drawn table S 0 k in_arena))
 
   -- each of its bytes is below 8, fd or fa
   byte_is : (g : ℕ) → g < S
@@ -331,7 +331,8 @@ module _ (S R : ℕ) {table : List ℕ} (high : (i : ℕ) → HeldRow table i �
     (apart : (i j : ℕ) → HeldRow table i → HeldRow table j → i ≢ j → (ends table i + R ≤ start table j)
     ⊎ (ends table j + R ≤ start table i)) where
   drawn_here : (g : ℕ) → g < S → get_or (drawn table S 0) g 0 ≡ drawn_byte table g
-  drawn_here g in_arena = getD_drawn table S 0 g in_arena ∙ ap (drawn_byte table) (let e : 0 + g ≡ g = omega arith in e)
+  drawn_here g in_arena =
+      get_or_drawn table S 0 g in_arena ∙ ap (drawn_byte table) (let e : 0 + g ≡ g = omega arith in e)
 
   drawn_over : (g i : ℕ) → Over table g i → get_or (drawn table S 0) g 0 ≡ painted table g i
   drawn_over g i o =

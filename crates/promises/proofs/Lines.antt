@@ -166,15 +166,15 @@ spells_asks {session} {bytes} spells =
 
 -- by what a line asks, whatever its bytes: its numbers have 32 bits
 module _ (P : Frame → Type 0) (bad_line : P (Refused BadLine)) (no_kind : P (Refused BadKind))
-    (not-zero : P (Refused NotZero))
+    (not_zero : P (Refused NotZero))
     (grants : (s : ℕ) → s < 16 ^ 8 → P (Grant s)) (releases : (a : ℕ) → a < 16 ^ 8 → P (Release a))
     (reads : (a n : ℕ) → a < 16 ^ 8 → n < 16 ^ 8 → P (Read a n))
     (writes : (a n : ℕ) → a < 16 ^ 8 → n < 16 ^ 8 → P (Write a n)) where
   by_numbers : (kind A B : ℕ) → A < 16 ^ 8 → B < 16 ^ 8 → P (frame (fields kind A B))
   by_numbers kind A B fits fits' =
       by_kind kind A B P
-      (λ e. by_zero B (Grant A) P (grants A fits) (λ above. not-zero))
-      (λ e. by_zero B (Release A) P (releases A fits) (λ above. not-zero))
+      (λ e. by_zero B (Grant A) P (grants A fits) (λ above. not_zero))
+      (λ e. by_zero B (Release A) P (releases A fits) (λ above. not_zero))
       (λ e. reads A B fits fits')
       (λ e. writes A B fits fits')
       (λ a b c d. no_kind)

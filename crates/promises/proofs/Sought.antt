@@ -252,10 +252,10 @@ module _ {S n R Q : ℕ} {h : History} {x : Exchange} (m : Moment (Holds S n R Q
         by_release R Q m.st.pool.shadow table a
         (λ acted. act_line watcher m.st ≡ outcome acted → Finding S n R Q h x)
         (λ e is. absurd (above e))
-        (λ not-zero no_live no_quarantined is.
+        (λ not_zero no_live no_quarantined is.
         foreign a seeks_block (says_status is)
         (λ s. ⊎_elim {C = ⊥} (none_live no_live) (none_quarantined no_quarantined) (starts_of h.live blocks a s)))
-        (λ not-zero no_live i e is.
+        (λ not_zero no_live i e is.
         let found : StartsAt quarantined table a i = row_at_some quarantined table a i e in
         twice a seeks_block (says_status is) (
           block_of table i,
@@ -263,7 +263,7 @@ module _ {S n R Q : ℕ} {h : History} {x : Exchange} (m : Moment (Holds S n R Q
           found.at,
         )
         (none_live no_live))
-        (λ not-zero i e is.
+        (λ not_zero i e is.
         let found : StartsAt live table a i = row_at_some live table a i e in
         let starts : Starts h.live a =
         (block_of table i, m.holds.stands.standing.lives.listed i found.below found.has, found.at) in

@@ -63,9 +63,9 @@ either P false p q = q
 line_number : (P : ℕ → Type 0) → P 0 → P 1 → P 2 → P 3 → P 5 → P 6 → P 7 → P 8 → P 9 → (st : State Pool)
     → P (status (act_line watcher st).answer)
 unfolding act_line act status in_numbers
-line_number P done no_line no_kind not-zero no_row no_place foreign twice bad st =
+line_number P done no_line no_kind not_zero no_row no_place foreign twice bad st =
     by_line (λ k. P (status (act st.session st.pool.shadow
-    st.pool.table k).answer)) no_line no_kind not-zero
+    st.pool.table k).answer)) no_line no_kind not_zero
     (λ s fits. grant_number P done no_row no_place st.session.redzone st.pool.shadow st.pool.table s)
     (λ a fits. release_number P done foreign twice st.session.redzone st.session.quarantine st.pool.shadow
     st.pool.table a)

@@ -66,10 +66,10 @@ with_zero_not B frame above = if_false _ _ (ne_eqb B 0 above)
 -- by B, and by the kind: what each of the kinds asks, and none of them
 pub by_zero {ℓ} : (B : ℕ) (frame : Frame) (P : Frame → Type ℓ) → P frame → (B ≢ 0 → P (Refused NotZero))
     → P (with_zero B frame)
-by_zero B frame P zeroed not-zero =
+by_zero B frame P zeroed not_zero =
     elim (ℕ_discrete B 0) [
       | yes e ↦ subst (λ c. P (with_zero c frame)) (sym e) (subst P (sym (with_zero_is frame)) zeroed)
-      | no above ↦ subst P (sym (with_zero_not B frame above)) (not-zero above)
+      | no above ↦ subst P (sym (with_zero_not B frame above)) (not_zero above)
     ]
 
 pub by_kind {ℓ} : (kind A B : ℕ) (P : Frame → Type ℓ)

@@ -134,10 +134,10 @@ granted_whole s k below =
     (omega (arith, length_zeros (s / granule)))
     ∙ get_or-replicate (s / granule) k 0 0 below
 
-getD_last : (k : ℕ) → get_or (last_granule k) 0 0 ≡ k
+get_or_last : (k : ℕ) → get_or (last_granule k) 0 0 ≡ k
 unfolding last_granule
-getD_last zero = refl
-getD_last (suc k) = refl
+get_or_last zero = refl
+get_or_last (suc k) = refl
 
 -- a remainder is in the last one
 pub granted_last : (s : ℕ) → get_or (granted s) (s / granule) 0 ≡ s % granule
@@ -146,7 +146,7 @@ granted_last s =
     let e : length (replicate {A = ℕ} (s / granule) 0) + 0 ≡ s / granule = omega (arith, length_zeros (s / granule)) in
     ap (λ m. get_or (replicate (s / granule) 0 ++ last_granule (s % granule)) m 0) (sym e)
     ∙ get_or-append-add (replicate (s / granule) 0) (last_granule (s % granule)) 0 0
-    ∙ getD_last (s % granule)
+    ∙ get_or_last (s % granule)
 
 -- so it is zeros, with the remainder stored in the last where there is one
 pub granted_even : (s : ℕ) → s % granule ≡ 0 → replicate (granules s) 0 ≡ granted s

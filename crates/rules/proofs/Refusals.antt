@@ -115,10 +115,10 @@ by_frame : (kind A B : ℕ) (P : Frame → Type 0)
     → (kind ≢ kind_grant → kind ≢ kind_release → kind ≢ kind_read → kind ≢ kind_write → P (Refused BadKind))
     → (B ≢ 0 → kind_grant ≤ kind → kind ≤ kind_release → P (Refused NotZero)) → P (frame (fields kind A B))
 unfolding refusal
-by_frame kind A B P asked other not-zero =
+by_frame kind A B P asked other not_zero =
     by_kind kind A B P
-    (λ e. by_zero B (Grant A) P (asked (Grant A) refl) (λ above. not-zero above (omega arith) (omega arith)))
-    (λ e. by_zero B (Release A) P (asked (Release A) refl) (λ above. not-zero above (omega arith) (omega arith)))
+    (λ e. by_zero B (Grant A) P (asked (Grant A) refl) (λ above. not_zero above (omega arith) (omega arith)))
+    (λ e. by_zero B (Release A) P (asked (Release A) refl) (λ above. not_zero above (omega arith) (omega arith)))
     (λ e. asked (Read A B) refl)
     (λ e. asked (Write A B) refl)
     other

@@ -15,10 +15,10 @@ returns c =
     let shadow = c.args.shadow.now in
     let table = c.args.table.now in
     let row = c.args.row in
-    let painted-over =
+    let painted_over =
     c.row.ensures ∙ ap₂ (λ from size. fill shadow from (granules size) redzone_byte) c.number-start.ensures
     c.number-size.ensures in
     let emptied = c.put_row.ensures ∙ ap (put_row table row) c.zero_row.ensures in
     let as_many = rows_same c.put_row.new.table table c.put_row.auto.table in
     let turns = c.lessen.ensures.table ∙ ap₂ lessened emptied as_many in
-    record { pool_after = ap₂ pool painted-over turns; oldest_next = c.lessen.ensures.oldest_next }
+    record { pool_after = ap₂ pool painted_over turns; oldest_next = c.lessen.ensures.oldest_next }

@@ -35,10 +35,10 @@ pub loop-row-preserved : goal.loop-row-preserved
 loop-row-preserved c =
     let loop = c.loop-row in
     let table = c.args.table.now in
-    let is-not : is_empty table loop.row ≡ false =
+    let is_not : is_empty table loop.row ≡ false =
     ne_eqb (state table loop.row) empty (λ e. c.if-number-eq-EMPTY.false (c.number.ensures ∙ e)) in (
       omega arith,
-      loop.invariant.1 ∙ walk_on (is_empty table) (length table / row_numbers) loop.row (omega arith) is-not,
+      loop.invariant.1 ∙ walk_on (is_empty table) (length table / row_numbers) loop.row (omega arith) is_not,
     )
 
 pub returns : goal.returns

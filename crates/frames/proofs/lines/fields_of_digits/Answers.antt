@@ -19,20 +19,20 @@ use Rattle.frames.proofs.lines.fields_of_digits.Goals as goal
 is : {found : Found} (o : Option ℕ) (k : ℕ) → found ≡ answered o → found ≡ One k → o ≡ some k
 is o k e f = answered_one o k (sym f ∙ e)
 
-is-not : {found : Found} (o : Option ℕ) → found ≡ answered o → found ≡ Nothing → o ≡ none
-is-not o e f = answered_nothing o (sym f ∙ e)
+is_not : {found : Found} (o : Option ℕ) → found ≡ answered o → found ≡ Nothing → o ≡ none
+is_not o e f = answered_nothing o (sym f ∙ e)
 
 pub returns-in_default : goal.returns-in_default
 unfolding read_field
-returns-in_default c = sym (bad_kind _ (is-not _ c.number.ensures c.in_default.is))
+returns-in_default c = sym (bad_kind _ (is_not _ c.number.ensures c.in_default.is))
 
 pub returns-in_default-number : goal.returns-in_default-number
 unfolding read_field
-returns-in_default-number c = sym (bad_first _ (is-not _ c.number-2.ensures c.in_default-number.is))
+returns-in_default-number c = sym (bad_first _ (is_not _ c.number-2.ensures c.in_default-number.is))
 
 pub returns-in_default-number-2 : goal.returns-in_default-number-2
 unfolding read_field
-returns-in_default-number-2 c = sym (bad_second _ (is-not _ c.number-3.ensures c.in_default-number-2.is))
+returns-in_default-number-2 c = sym (bad_second _ (is_not _ c.number-3.ensures c.in_default-number-2.is))
 
 pub overflow_cast-kind : goal.overflow_cast-kind
 unfolding read_field
