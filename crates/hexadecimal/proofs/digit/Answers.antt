@@ -1,4 +1,5 @@
--- `hex::digit` meets its contract: each return opens the choice of `digit` by the test that led there. Assumes nothing.
+-- `hexadecimal::digit` meets its contract: each return opens the choice of `digit` by the test that led there. Assumes
+-- nothing.
 use mathlib.Core.Path.{sym}
 use borrow.Author.Tests.{lt-ltb, le-ltb}
 use Rattle.rules.specs.Hex.{digit}

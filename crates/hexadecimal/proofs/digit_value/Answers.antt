@@ -1,5 +1,5 @@
--- `hex::digit_value` meets its contract: the rule of the table is one test over its 256 entries, which antt computes,
--- and `at_entry` carries it to the lookup. Assumes nothing.
+-- `hexadecimal::digit_value` meets its contract: the rule of the table is one test over its 256 entries, which antt
+-- computes, and `at_entry` carries it to the lookup. Assumes nothing.
 use Prim.Native.Nat.{ℕ}
 use mathlib.Core.Path.{refl}
 use mathlib.Core.List.{List, [], ◌∷◌}

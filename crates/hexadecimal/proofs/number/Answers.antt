@@ -23,9 +23,9 @@ step n bs i inside is =
 -- a byte at i that is none
 stop : (n : ℕ) (bs : List ℕ) (i : ℕ) → i < length bs → no_digit ≤ digit_value (get_or bs i 0) → number_on n (drop i bs)
     ≡ none
-stop n bs i inside not-one =
+stop n bs i inside not_one =
     ap (number_on n) (drop-cons bs i 0 inside)
-    ∙ number_stop n (get_or bs i 0) (drop (suc i) bs) (value_none (get_or bs i 0) not-one)
+    ∙ number_stop n (get_or bs i 0) (drop (suc i) bs) (value_none (get_or bs i 0) not_one)
 
 -- before the last of 16 digits, fifteen are read at most
 small : {said i : ℕ} → said < 16 ^ i → i < 16 → said < 16 ^ 15

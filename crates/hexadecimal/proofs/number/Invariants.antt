@@ -1,5 +1,5 @@
--- `hex::number` meets its contract. The loop's invariant: what the digits say is what those from `i` on say, read on
--- from `said`, which has at most `i` digits. The measure is what is left of the length. Assumes nothing.
+-- `hexadecimal::number` meets its contract. The loop's invariant: what the digits say is what those from `i` on say,
+-- read on from `said`, which has at most `i` digits. The measure is what is left of the length. Assumes nothing.
 use Prim.Native.Nat.{ℕ, ◌-◌, ◌^◌, ◌≤◌, ◌<◌}
 use mathlib.Core.Path.{◌≡◌}
 use mathlib.Core.List.{List}

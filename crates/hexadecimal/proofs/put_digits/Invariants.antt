@@ -1,5 +1,5 @@
--- `hex::put_digits` meets its contract. The loop's invariant: of the digits, those from `i` on are written, and `left`
--- is the number without them. The measure is `i`. Assumes nothing.
+-- `hexadecimal::put_digits` meets its contract. The loop's invariant: of the digits, those from `i` on are written, and
+-- `left` is the number without them. The measure is `i`. Assumes nothing.
 use Prim.Native.Nat.{ℕ, ◌-◌, ◌/◌, ◌^◌, ◌≤◌}
 use mathlib.Core.Path.{◌≡◌}
 use mathlib.Core.List.{List}
