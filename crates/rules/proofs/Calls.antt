@@ -11,10 +11,10 @@ use lib.ListN.{length, get_or, set, take, replicate, length-replicate, get_or-re
 use lib.Seq.{get_or-set_other}
 use lib.Dec.{eqb}
 use borrow.Author.Tests.{eqb-true, eq-eqb, ne_eqb, leb-true, le-leb}
+use Rattle.std.specs.Prelude.{Ok, Err}
+use Rattle.rules.specs.declared.CallRefusal.TheVariants.{BadSession}
+use Rattle.rules.specs.declared.OpeningRefusal.TheVariants.{BadShadowLength, BadRedzone, BadTableLength}
 use Rattle.rules.specs.declared.Session.{Session}
-use Rattle.rules.specs.declared.Answer.TheVariants.{Done}
-use Rattle.rules.specs.declared.CallAnswer.TheVariants.{Answered, BadSession}
-use Rattle.rules.specs.declared.OpeningAnswer.TheVariants.{Open, BadShadowLength, BadRedzone, BadTableLength}
 use Rattle.rules.specs.declared.Frame.TheVariants.{Grant, Release, Read}
 use Rattle.rules.specs.Limits.{between, least_granules, most_granules, least_rows, most_rows, row_numbers}
 use Rattle.rules.specs.Limits.{least_redzone, most_redzone, frame_digits, too_long, redzone_byte}
@@ -209,25 +209,25 @@ run_lent st text l = run_has watcher LentState step_lent st text l
 -- ---- opening
 
 pub open_bad_shadow : (shadow table : List ℕ) (R Q : ℕ) → between least_granules most_granules (length shadow) ≡ false
-    → open_with shadow table R Q ≡ not_opened BadShadowLength shadow table
+    → open_with shadow table R Q ≡ not_opened (Err BadShadowLength) shadow table
 unfolding open_with
 open_bad_shadow shadow table R Q a = if_false _ _ a
 
 pub open_bad_redzone : (shadow table : List ℕ) (R Q : ℕ) → between least_granules most_granules (length shadow) ≡ true
-    → between least_redzone most_redzone R ≡ false → open_with shadow table R Q ≡ not_opened BadRedzone shadow table
+    → between least_redzone most_redzone R ≡ false → open_with shadow table R Q ≡ not_opened (Err BadRedzone) shadow table
 unfolding open_with
 open_bad_redzone shadow table R Q a b = if_true _ _ a ∙ if_false _ _ b
 
 pub open_bad_table : (shadow table : List ℕ) (R Q : ℕ) → between least_granules most_granules (length shadow) ≡ true
     → between least_redzone most_redzone R ≡ true → table_length (length table) ≡ false
-    → open_with shadow table R Q ≡ not_opened BadTableLength shadow table
+    → open_with shadow table R Q ≡ not_opened (Err BadTableLength) shadow table
 unfolding open_with
 open_bad_table shadow table R Q a b c = if_true _ _ a ∙ if_true _ _ b ∙ if_false _ _ c
 
 -- what an accepted opening gives
 abbrev pub opened_with : List ℕ → List ℕ → ℕ → ℕ → OpenedWith
 opened_with shadow table R Q = record {
-  given = record { session = fresh (length shadow) (length table / row_numbers) R Q; status = opening_status Open };
+  given = record { session = fresh (length shadow) (length table / row_numbers) R Q; status = opening_status (Ok tt) };
   shadow = replicate (length shadow) redzone_byte;
   table = replicate (length table) 0;
 }
@@ -240,11 +240,11 @@ open_done shadow table R Q a b c = if_true _ _ a ∙ if_true _ _ b ∙ if_true _
 
 -- by what an opening finds, each case with the tests that were passed before it
 pub by_open {ℓ} : (shadow table : List ℕ) (R Q : ℕ) (P : OpenedWith → Type ℓ)
-    → (between least_granules most_granules (length shadow) ≡ false → P (not_opened BadShadowLength shadow table))
+    → (between least_granules most_granules (length shadow) ≡ false → P (not_opened (Err BadShadowLength) shadow table))
     → (between least_granules most_granules (length shadow) ≡ true → between least_redzone most_redzone R ≡ false
-    → P (not_opened BadRedzone shadow table))
+    → P (not_opened (Err BadRedzone) shadow table))
     → (between least_granules most_granules (length shadow) ≡ true → between least_redzone most_redzone R ≡ true
-    → table_length (length table) ≡ false → P (not_opened BadTableLength shadow table))
+    → table_length (length table) ≡ false → P (not_opened (Err BadTableLength) shadow table))
     → P (opened_with shadow table R Q) → P (open_with shadow table R Q)
 by_open shadow table R Q P bad_shadow bad_redzone bad_table done =
     by_test (between least_granules most_granules (length shadow))
@@ -298,33 +298,33 @@ open_lent shadow table R Q a b c =
 
 -- they answer as their frames do
 pub grant_as_frame : (session : Session) (shadow table : List ℕ) (s : ℕ) → fits_lent session shadow table ≡ true
-    → grant_call session shadow table s ≡ as_line (act session shadow table (Grant s))
+    → grant_call session shadow table s ≡ as_line (act session shadow table (Ok (Grant s)))
 unfolding grant_call act
 grant_as_frame session shadow table s e = if_true _ _ e
 
 pub release_as_frame : (session : Session) (shadow table : List ℕ) (a : ℕ) → fits_lent session shadow table ≡ true
-    → release_call session shadow table a ≡ as_line (act session shadow table (Release a))
+    → release_call session shadow table a ≡ as_line (act session shadow table (Ok (Release a)))
 unfolding release_call act
 release_as_frame session shadow table a e = if_true _ _ e
 
 pub access_as_frame : (session : Session) (shadow table : List ℕ) (a n : ℕ) → fits_lent session shadow table ≡ true
-    → called (access_call session shadow table a n) shadow table ≡ as_line (act session shadow table (Read a n))
+    → called (access_call session shadow table a n) shadow table ≡ as_line (act session shadow table (Ok (Read a n)))
 unfolding access_call act
 access_as_frame session shadow table a n e = ap (λ answer. called answer shadow table) (if_true _ _ e)
 
 -- 24 first, and it changes nothing
 pub grant_24 : (session : Session) (shadow table : List ℕ) (s : ℕ) → fits_lent session shadow table ≡ false
-    → grant_call session shadow table s ≡ called BadSession shadow table
+    → grant_call session shadow table s ≡ called (Err BadSession) shadow table
 unfolding grant_call
 grant_24 session shadow table s e = if_false _ _ e
 
 pub release_24 : (session : Session) (shadow table : List ℕ) (a : ℕ) → fits_lent session shadow table ≡ false
-    → release_call session shadow table a ≡ called BadSession shadow table
+    → release_call session shadow table a ≡ called (Err BadSession) shadow table
 unfolding release_call
 release_24 session shadow table a e = if_false _ _ e
 
 pub access_24 : (session : Session) (shadow table : List ℕ) (a n : ℕ) → fits_lent session shadow table ≡ false
-    → access_call session shadow table a n ≡ BadSession
+    → access_call session shadow table a n ≡ Err BadSession
 unfolding access_call
 access_24 session shadow table a n e = if_false _ _ e
 
@@ -351,12 +351,12 @@ release_call_refused session shadow table a =
     (release_refused session.redzone session.quarantine shadow table a))
     (λ not. subst (CallRefusedKeeps shadow table) (sym (if_false _ _ not)) (λ refused. (refl, refl)))
 
-pub unfinished_24 : (session : Session) → within_limits session ≡ false → unfinished_call session ≡ BadSession
+pub unfinished_24 : (session : Session) → within_limits session ≡ false → unfinished_call session ≡ Err BadSession
 unfolding unfinished_call
 unfinished_24 session e = if_false _ _ e
 
 pub unfinished_done : (session : Session) → within_limits session ≡ true
-    → unfinished_call session ≡ Answered (Done session.unfinished)
+    → unfinished_call session ≡ Ok (Ok session.unfinished)
 unfolding unfinished_call
 unfinished_done session e = if_true _ _ e
 

@@ -5,23 +5,21 @@ use native.Mathlib.Decide.{ℕ_discrete}
 use native.Mathlib.Omega.{arith}
 use mathlib.Core.Path.{◌≡◌, refl, sym, ap, subst, ◌∙◌}
 use mathlib.Core.Logic.{◌≢◌}
-use mathlib.Core.Option.{none, some}
 use mathlib.Core.List.{List, [], ◌∷◌}
 use lib.ListN.{length, get_or, length-append}
 use borrow.Author.Tests.{ne_eqb}
-use Rattle.rules.specs.declared.Answer.{Answer}
-use Rattle.rules.specs.declared.Answer.TheVariants.{BadLine, BadKind, NotZero}
+use Rattle.std.specs.Prelude.{Option, Some, None, Ok, Err}
+use Rattle.rules.specs.declared.Refusal.TheVariants.{BadLine, BadKind, NotZero}
+use Rattle.rules.specs.Answers.{Answer}
 use Rattle.rules.specs.declared.Fields.{Fields}
-use Rattle.rules.specs.declared.Line.{Line}
-use Rattle.rules.specs.declared.Line.TheVariants.{Of, NotDigits}
 use Rattle.rules.specs.declared.Frame.{Frame}
-use Rattle.rules.specs.declared.Frame.TheVariants.{Grant, Release, Read, Write, Refused}
+use Rattle.rules.specs.declared.Frame.TheVariants.{Grant, Release, Read, Write}
 use Rattle.rules.specs.Field.{start_of}
 use Rattle.rules.specs.Limits.{frame_fields, frame_kind, frame_A, frame_B, frame_digits, line_feed, answer_fields}
 use Rattle.rules.specs.Limits.{answer_bytes, kind_grant, kind_release, kind_read, kind_write}
 use Rattle.rules.specs.Hex.{hex_digit, written, read_field}
 use Rattle.rules.specs.Answers.{in_numbers}
-use Rattle.rules.specs.Frames.{fields, fields_of_digits, fields_of_line, with_zero, frame, asked, frame_of_line}
+use Rattle.rules.specs.Frames.{Asked, fields, fields_of_digits, fields_of_line, with_zero, frame, asked, frame_of_line}
 use Rattle.rules.specs.Frames.{answer_line}
 use Rattle.rules.proofs.Tests.{by_found, by_order, if_false}
 use Rattle.rules.proofs.Hex.{length_written, read_back, read_fits, field_none, field_some}
@@ -37,16 +35,16 @@ pub frame_release : (A B : ℕ) → frame (fields kind_release A B) ≡ with_zer
 unfolding frame
 frame_release A B = refl
 
-pub frame_read : (A B : ℕ) → frame (fields kind_read A B) ≡ Read A B
+pub frame_read : (A B : ℕ) → frame (fields kind_read A B) ≡ Ok (Read A B)
 unfolding frame
 frame_read A B = refl
 
-pub frame_write : (A B : ℕ) → frame (fields kind_write A B) ≡ Write A B
+pub frame_write : (A B : ℕ) → frame (fields kind_write A B) ≡ Ok (Write A B)
 unfolding frame
 frame_write A B = refl
 
 pub frame_other : (kind A B : ℕ) → kind ≢ kind_grant → kind ≢ kind_release → kind ≢ kind_read → kind ≢ kind_write
-    → frame (fields kind A B) ≡ Refused BadKind
+    → frame (fields kind A B) ≡ Err BadKind
 unfolding frame
 frame_other kind A B a b c d =
     if_false _ _ (ne_eqb kind kind_grant a)
@@ -55,16 +53,16 @@ frame_other kind A B a b c d =
     ∙ if_false _ _ (ne_eqb kind kind_write d)
 
 -- 03 exactly where B is not zero
-pub with_zero_is : (frame : Frame) → with_zero 0 frame ≡ frame
+pub with_zero_is : (frame : Frame) → with_zero 0 frame ≡ Ok frame
 unfolding with_zero
 with_zero_is frame = refl
 
-pub with_zero_not : (B : ℕ) (frame : Frame) → B ≢ 0 → with_zero B frame ≡ Refused NotZero
+pub with_zero_not : (B : ℕ) (frame : Frame) → B ≢ 0 → with_zero B frame ≡ Err NotZero
 unfolding with_zero
 with_zero_not B frame above = if_false _ _ (ne_eqb B 0 above)
 
 -- by B, and by the kind: what each of the kinds asks, and none of them
-pub by_zero {ℓ} : (B : ℕ) (frame : Frame) (P : Frame → Type ℓ) → P frame → (B ≢ 0 → P (Refused NotZero))
+pub by_zero {ℓ} : (B : ℕ) (frame : Frame) (P : Asked → Type ℓ) → P (Ok frame) → (B ≢ 0 → P ((Err NotZero)))
     → P (with_zero B frame)
 by_zero B frame P zeroed not_zero =
     elim (ℕ_discrete B 0) [
@@ -72,12 +70,12 @@ by_zero B frame P zeroed not_zero =
       | no above ↦ subst P (sym (with_zero_not B frame above)) (not_zero above)
     ]
 
-pub by_kind {ℓ} : (kind A B : ℕ) (P : Frame → Type ℓ)
+pub by_kind {ℓ} : (kind A B : ℕ) (P : Asked → Type ℓ)
     → (kind ≡ kind_grant → P (with_zero B (Grant A)))
     → (kind ≡ kind_release → P (with_zero B (Release A)))
-    → (kind ≡ kind_read → P (Read A B))
-    → (kind ≡ kind_write → P (Write A B))
-    → (kind ≢ kind_grant → kind ≢ kind_release → kind ≢ kind_read → kind ≢ kind_write → P (Refused BadKind))
+    → (kind ≡ kind_read → P (Ok (Read A B)))
+    → (kind ≡ kind_write → P (Ok (Write A B)))
+    → (kind ≢ kind_grant → kind ≢ kind_release → kind ≢ kind_read → kind ≢ kind_write → P ((Err BadKind)))
     → P (frame (fields kind A B))
 by_kind kind A B P grants releases reads writes other =
     elim (ℕ_discrete kind kind_grant) [
@@ -99,27 +97,27 @@ by_kind kind A B P grants releases reads writes other =
           ]
     ]
   where
-    is : {k : ℕ} {asked : Frame} → kind ≡ k → frame (fields k A B) ≡ asked → P asked → P (frame (fields kind A B))
+    is : {k : ℕ} {asked : Asked} → kind ≡ k → frame (fields k A B) ≡ asked → P asked → P (frame (fields kind A B))
     is e asks p = subst (λ k. P (frame (fields k A B))) (sym e) (subst P (sym asks) p)
 
 -- ---- a line
 
 -- a line of fields asks what they ask, and any other is refused 01
-pub line_asks : (n : ℕ) (line : List ℕ) (fields : Fields) → fields_of_line n line ≡ Of fields → frame_of_line n line
+pub line_asks : (n : ℕ) (line : List ℕ) (fields : Fields) → fields_of_line n line ≡ Some fields → frame_of_line n line
     ≡ frame fields
 unfolding frame_of_line asked
 line_asks n line fields e = ap asked e
 
-pub line_refused : (n : ℕ) (line : List ℕ) → fields_of_line n line ≡ NotDigits → frame_of_line n line ≡ Refused BadLine
+pub line_refused : (n : ℕ) (line : List ℕ) → fields_of_line n line ≡ None → frame_of_line n line ≡ Err BadLine
 unfolding frame_of_line asked
 line_refused n line e = ap asked e
 
 -- it has no fields where it is not 18 bytes long
-pub fields_length : (n : ℕ) (line : List ℕ) → n ≢ frame_digits → fields_of_line n line ≡ NotDigits
+pub fields_length : (n : ℕ) (line : List ℕ) → n ≢ frame_digits → fields_of_line n line ≡ None
 unfolding fields_of_line
 fields_length n line other = if_false _ _ (ne_eqb n frame_digits other)
 
-pub line_length : (n : ℕ) (line : List ℕ) → n ≢ frame_digits → frame_of_line n line ≡ Refused BadLine
+pub line_length : (n : ℕ) (line : List ℕ) → n ≢ frame_digits → frame_of_line n line ≡ Err BadLine
 line_length n line other = line_refused n line (fields_length n line other)
 
 pub line_whole : (line : List ℕ) → fields_of_line frame_digits line ≡ fields_of_digits line
@@ -127,25 +125,25 @@ unfolding fields_of_line
 line_whole line = refl
 
 -- the three numbers of a line
-pub fields_of_numbers : (line : List ℕ) (kind A B : ℕ) → read_field frame_fields frame_kind line ≡ some kind
-    → read_field frame_fields frame_A line ≡ some A → read_field frame_fields frame_B line ≡ some B
-    → fields_of_digits line ≡ Of (fields kind A B)
+pub fields_of_numbers : (line : List ℕ) (kind A B : ℕ) → read_field frame_fields frame_kind line ≡ Some kind
+    → read_field frame_fields frame_A line ≡ Some A → read_field frame_fields frame_B line ≡ Some B
+    → fields_of_digits line ≡ Some (fields kind A B)
 unfolding fields_of_digits
 fields_of_numbers line kind A B k a b = rw (k, fields_of_digits) (rw a (rw b))
 
 -- no fields where one of the three is no number
-pub bad_kind : (line : List ℕ) → read_field frame_fields frame_kind line ≡ none → fields_of_digits line ≡ NotDigits
+pub bad_kind : (line : List ℕ) → read_field frame_fields frame_kind line ≡ None → fields_of_digits line ≡ None
 unfolding fields_of_digits
 bad_kind line k = rw (k, fields_of_digits)
 
-pub bad_first : (line : List ℕ) → read_field frame_fields frame_A line ≡ none → fields_of_digits line ≡ NotDigits
+pub bad_first : (line : List ℕ) → read_field frame_fields frame_A line ≡ None → fields_of_digits line ≡ None
 unfolding fields_of_digits
 bad_first line a =
     by_found (read_field frame_fields frame_kind line)
     (λ kind k. rw (k, fields_of_digits) (rw a))
     (λ k. bad_kind line k)
 
-pub bad_second : (line : List ℕ) → read_field frame_fields frame_B line ≡ none → fields_of_digits line ≡ NotDigits
+pub bad_second : (line : List ℕ) → read_field frame_fields frame_B line ≡ None → fields_of_digits line ≡ None
 unfolding fields_of_digits
 bad_second line b =
     by_found (read_field frame_fields frame_kind line)
@@ -156,8 +154,8 @@ bad_second line b =
     (λ k. bad_kind line k)
 
 -- by the fields of a line, whatever its bytes: each fits its digits
-pub by_fields {ℓ} : (P : Line → Type ℓ) → P NotDigits
-    → ((kind A B : ℕ) → kind < 16 ^ 2 → A < 16 ^ 8 → B < 16 ^ 8 → P (Of (fields kind A B)))
+pub by_fields {ℓ} : (P : Option Fields → Type ℓ) → P None
+    → ((kind A B : ℕ) → kind < 16 ^ 2 → A < 16 ^ 8 → B < 16 ^ 8 → P (Some (fields kind A B)))
     → (n : ℕ) (line : List ℕ) → P (fields_of_line n line)
 by_fields P not_digits said n line =
     elim (ℕ_discrete n frame_digits) [
@@ -184,8 +182,8 @@ by_fields P not_digits said n line =
 
 -- no fields, so 01, where a byte of the 18 is no hex digit
 pub line_bad : (line : List ℕ) (k : ℕ) → length line ≡ frame_digits → k < frame_digits → hex_digit (get_or line k 0)
-    ≡ none
-    → fields_of_digits line ≡ NotDigits
+    ≡ None
+    → fields_of_digits line ≡ None
 line_bad line k whole below e =
     by_order k (start_of frame_fields frame_A)
     (λ kind. bad_kind line (field_none frame_fields frame_kind line k (omega arith) zero-le (omega arith) e))
@@ -196,20 +194,20 @@ line_bad line k whole below e =
 
 -- and only there: 18 hex digits are a kind, A and B
 pub line_good : (line : List ℕ) → length line ≡ frame_digits
-    → ((k : ℕ) → k < frame_digits → hex_digit (get_or line k 0) ≢ none)
-    → (kind : ℕ) × (A : ℕ) × (B : ℕ) × (fields_of_digits line ≡ Of (fields kind A B))
+    → ((k : ℕ) → k < frame_digits → hex_digit (get_or line k 0) ≢ None)
+    → (kind : ℕ) × (A : ℕ) × (B : ℕ) × (fields_of_digits line ≡ Some (fields kind A B))
 line_good line whole all =
-    let k : (v : ℕ) × (read_field frame_fields frame_kind line ≡ some v) =
+    let k : (v : ℕ) × (read_field frame_fields frame_kind line ≡ Some v) =
     field_some frame_fields frame_kind line (omega arith) (λ j from below. all j (omega arith)) in
-    let a : (v : ℕ) × (read_field frame_fields frame_A line ≡ some v) =
+    let a : (v : ℕ) × (read_field frame_fields frame_A line ≡ Some v) =
     field_some frame_fields frame_A line (omega arith) (λ j from below. all j (omega arith)) in
-    let b : (v : ℕ) × (read_field frame_fields frame_B line ≡ some v) =
+    let b : (v : ℕ) × (read_field frame_fields frame_B line ≡ Some v) =
     field_some frame_fields frame_B line (omega arith) (λ j from below. all j (omega arith)) in
     (k.0, a.0, b.0, fields_of_numbers line k.0 a.0 b.0 k.1 a.1 b.1)
 
 -- fields that are written are read back, where they fit their digits
 pub fields_written : (kind A B : ℕ) → kind < 16 ^ 2 → A < 16 ^ 8 → B < 16 ^ 8
-    → fields_of_digits (written frame_fields (fields kind A B)) ≡ Of (fields kind A B)
+    → fields_of_digits (written frame_fields (fields kind A B)) ≡ Some (fields kind A B)
 fields_written kind A B in2 in8 in8' =
     let said : Fields = fields kind A B in
     let line : List ℕ = written frame_fields said in

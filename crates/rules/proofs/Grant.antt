@@ -5,13 +5,13 @@ use native.Mathlib.Omega.{arith}
 use mathlib.Core.Path.{◌≡◌, refl, sym, ap, subst, ◌∙◌}
 use mathlib.Core.Logic.{◌≢◌}
 use mathlib.Core.Bool.{true, true≢false}
-use mathlib.Core.Option.{none, some}
 use mathlib.Core.List.{List, ◌++◌}
 use lib.ListN.{length, get_or, replicate, set, length-append, length-replicate, length-set, get_or-replicate}
 use lib.ListN.{get_or-append}
 use lib.Seq.{get_or-append-add, get_or-set_same, get_or-set_other, ext_get_or}
 use borrow.Author.Tests.{eqb-true, eq-eqb}
-use Rattle.rules.specs.declared.Answer.TheVariants.{NoRow, NoPlace}
+use Rattle.std.specs.Prelude.{Some, None, Err}
+use Rattle.rules.specs.declared.Refusal.TheVariants.{NoRow, NoPlace}
 use Rattle.rules.specs.declared.Row.{Row}
 use Rattle.rules.specs.Limits.{granule, most_granules, redzone_byte, empty}
 use Rattle.rules.specs.Table.{rows, state, row_of, put_row, is_empty}
@@ -70,7 +70,7 @@ fits_is shadow R u p f =
     all_equal_is shadow redzone_byte (p - R) (R + u + R)
     (subst (λ w. AllFree shadow (p - R) w) (sym (fits_window R u p f.low)) f.free)
 
-pub place_some : (shadow : List ℕ) (R u p : ℕ) → place shadow R u ≡ some p → Place shadow R u p
+pub place_some : (shadow : List ℕ) (R u p : ℕ) → place shadow R u ≡ Some p → Place shadow R u p
 unfolding place
 place_some shadow R u p e =
     let n : ℕ = length shadow + 1 - (R + u + R) in
@@ -80,7 +80,7 @@ place_some shadow R u p e =
       lowest = λ q less f. true≢false (sym (fits_is shadow R u q f) ∙ l.first q f.low less);
     }
 
-pub place_none : (shadow : List ℕ) (R u : ℕ) → place shadow R u ≡ none → (p : ℕ) → Fits shadow R u p → ⊥
+pub place_none : (shadow : List ℕ) (R u : ℕ) → place shadow R u ≡ None → (p : ℕ) → Fits shadow R u p → ⊥
 unfolding place
 place_none shadow R u e p f =
     true≢false
@@ -88,22 +88,22 @@ place_none shadow R u e p f =
     ∙ lowest_none (fits shadow R u) (length shadow + 1 - (R + u + R)) R e p f.low
     (let high : p + u + R ≤ length shadow = f.high in omega arith))
 
-pub place_is : (shadow : List ℕ) (R u p : ℕ) → Place shadow R u p → place shadow R u ≡ some p
+pub place_is : (shadow : List ℕ) (R u p : ℕ) → Place shadow R u p → place shadow R u ≡ Some p
 place_is shadow R u p l =
     by_found (place shadow R u)
     (λ q e.
     let k : Place shadow R u q = place_some shadow R u q e in
     let not_above : p < q → ⊥ = λ less. k.lowest p less l.fits in
     let not_below : q < p → ⊥ = λ less. l.lowest q less k.fits in
-    e ∙ ap some (omega arith))
+    e ∙ ap Some (omega arith))
     (λ e. absurd (place_none shadow R u e p l.fits))
 
-pub place_no : (shadow : List ℕ) (R u : ℕ) → ((p : ℕ) → Fits shadow R u p → ⊥) → place shadow R u ≡ none
+pub place_no : (shadow : List ℕ) (R u : ℕ) → ((p : ℕ) → Fits shadow R u p → ⊥) → place shadow R u ≡ None
 place_no shadow R u nowhere =
     by_found (place shadow R u) (λ q e. absurd (nowhere q (place_some shadow R u q e).fits)) (λ e. e)
 
 -- the address of a place has 32 bits
-pub place_fits : (shadow : List ℕ) (R u p : ℕ) → place shadow R u ≡ some p → length shadow ≤ most_granules → granule * p
+pub place_fits : (shadow : List ℕ) (R u p : ℕ) → place shadow R u ≡ Some p → length shadow ≤ most_granules → granule * p
     < 2 ^ 32
 place_fits shadow R u p e most = omega (arith, (place_some shadow R u p e).fits.high)
 
@@ -178,11 +178,11 @@ granted_rest s rest =
 
 -- ---- the row
 
-pub empty_row_some : (table : List ℕ) (i : ℕ) → empty_row table ≡ some i → Lowest (is_empty table) (rows table) 0 i
+pub empty_row_some : (table : List ℕ) (i : ℕ) → empty_row table ≡ Some i → Lowest (is_empty table) (rows table) 0 i
 unfolding empty_row
 empty_row_some table i e = lowest_some (is_empty table) (rows table) 0 i e
 
-pub empty_row_none : (table : List ℕ) → empty_row table ≡ none → (i : ℕ) → i < rows table → state table i ≢ empty
+pub empty_row_none : (table : List ℕ) → empty_row table ≡ None → (i : ℕ) → i < rows table → state table i ≢ empty
 unfolding empty_row
 empty_row_none table e i below is_zero =
     true≢false (sym (eq-eqb (state table i) empty is_zero)
@@ -190,29 +190,29 @@ empty_row_none table e i below is_zero =
 
 -- ---- a grant
 
-pub grant_no_row : (R : ℕ) (shadow table : List ℕ) (s : ℕ) → empty_row table ≡ none
-    → grant R shadow table s ≡ unchanged NoRow shadow table
+pub grant_no_row : (R : ℕ) (shadow table : List ℕ) (s : ℕ) → empty_row table ≡ None
+    → grant R shadow table s ≡ unchanged (Err NoRow) shadow table
 unfolding grant
 grant_no_row R shadow table s e = rw (e, grant)
 
-pub grant_no_place : (R : ℕ) (shadow table : List ℕ) (s i : ℕ) → empty_row table ≡ some i
-    → place shadow R (granules (counted s)) ≡ none
-    → grant R shadow table s ≡ unchanged NoPlace shadow table
+pub grant_no_place : (R : ℕ) (shadow table : List ℕ) (s i : ℕ) → empty_row table ≡ Some i
+    → place shadow R (granules (counted s)) ≡ None
+    → grant R shadow table s ≡ unchanged (Err NoPlace) shadow table
 unfolding grant
 grant_no_place R shadow table s i row e = rw (row, grant) (rw (e))
 
-pub grant_done : (R : ℕ) (shadow table : List ℕ) (s i p : ℕ) → empty_row table ≡ some i
-    → place shadow R (granules (counted s)) ≡ some p
+pub grant_done : (R : ℕ) (shadow table : List ℕ) (s i p : ℕ) → empty_row table ≡ Some i
+    → place shadow R (granules (counted s)) ≡ Some p
     → grant R shadow table s ≡ grant_at shadow table (counted s) i p
 unfolding grant
 grant_done R shadow table s i p row e = rw (row, grant) (rw (e))
 
 -- by what a grant finds
 pub by_grant {ℓ} : (R : ℕ) (shadow table : List ℕ) (s : ℕ) (P : Acted → Type ℓ)
-    → (empty_row table ≡ none → P (unchanged NoRow shadow table))
-    → ((i : ℕ) → empty_row table ≡ some i → place shadow R (granules (counted s)) ≡ none
-    → P (unchanged NoPlace shadow table))
-    → ((i p : ℕ) → empty_row table ≡ some i → place shadow R (granules (counted s)) ≡ some p
+    → (empty_row table ≡ None → P (unchanged (Err NoRow) shadow table))
+    → ((i : ℕ) → empty_row table ≡ Some i → place shadow R (granules (counted s)) ≡ None
+    → P (unchanged (Err NoPlace) shadow table))
+    → ((i p : ℕ) → empty_row table ≡ Some i → place shadow R (granules (counted s)) ≡ Some p
     → P (grant_at shadow table (counted s) i p))
     → P (grant R shadow table s)
 by_grant R shadow table s P no_row no_place done =
@@ -224,7 +224,7 @@ by_grant R shadow table s P no_row no_place done =
     (λ full. subst P (sym (grant_no_row R shadow table s full)) (no_row full))
 
 -- a place for a block leaves its granules inside the shadow
-pub place_inside : (R : ℕ) (shadow : List ℕ) (s p : ℕ) → place shadow R (granules s) ≡ some p → p + length (granted s)
+pub place_inside : (R : ℕ) (shadow : List ℕ) (s p : ℕ) → place shadow R (granules s) ≡ Some p → p + length (granted s)
     ≤ length shadow
 place_inside R shadow s p e = omega (arith, (place_some shadow R (granules s) p e).fits.high, length_granted s)
 

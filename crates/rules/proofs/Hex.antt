@@ -6,12 +6,13 @@ use native.Mathlib.Nat.{lt_of_lt_of_le, mul-le-mul_right, min-le_left, pow-le-po
 use native.Mathlib.Omega.{arith}
 use mathlib.Core.Path.{◌≡◌, refl, sym, ap, ap₂, subst, ◌∙◌}
 use mathlib.Core.Logic.{◌≢◌}
-use mathlib.Core.Option.{none, some, none-ne-some, some-injective}
 use mathlib.Core.List.{List, [], ◌∷◌, ◌++◌, append_assoc, append-nil}
 use lib.ListN.{length, get_or, take, drop, set, drop_of_length-le, length-append, length-take, length-drop}
 use lib.Seq.{take_at, take-length, drop_at, drop-cons, set_at, drop-drop, get_or-take, get_or-drop, length-take-le}
 use lib.Arith.{mod-mul}
 use borrow.Author.Tests.{lt-ltb, le-ltb}
+use Rattle.std.specs.Prelude.{Some, None}
+use Rattle.std.proofs.lemmas.Option.{same_Some, none-some}
 use Rattle.rules.specs.Field.{Field, width_of, start_of, number_of, digits_of}
 use Rattle.rules.specs.Limits.{between, line_feed, no_digit}
 use Rattle.rules.specs.Hex.{hex_digit, digit_value, number_on, number_nil, number_cons, number_stop, number}
@@ -22,16 +23,16 @@ use Rattle.rules.proofs.Tests.{if_false, if_true}
 
 -- ---- a hex digit
 
-pub hex_digit_figure : (b : ℕ) → 0x30 ≤ b → b ≤ 0x39 → hex_digit b ≡ some (b - 0x30)
+pub hex_digit_figure : (b : ℕ) → 0x30 ≤ b → b ≤ 0x39 → hex_digit b ≡ Some (b - 0x30)
 unfolding hex_digit
 hex_digit_figure b from upto = if_true _ _ (between_true 0x30 0x39 b from upto)
 
-pub hex_digit_small : (b : ℕ) → 0x61 ≤ b → b ≤ 0x66 → hex_digit b ≡ some (b - 0x61 + 10)
+pub hex_digit_small : (b : ℕ) → 0x61 ≤ b → b ≤ 0x66 → hex_digit b ≡ Some (b - 0x61 + 10)
 unfolding hex_digit
 hex_digit_small b from upto =
     if_false _ _ (between_high 0x30 0x39 b (omega arith)) ∙ if_true _ _ (between_true 0x61 0x66 b from upto)
 
-pub hex_digit_capital : (b : ℕ) → 0x41 ≤ b → b ≤ 0x46 → hex_digit b ≡ some (b - 0x41 + 10)
+pub hex_digit_capital : (b : ℕ) → 0x41 ≤ b → b ≤ 0x46 → hex_digit b ≡ Some (b - 0x41 + 10)
 unfolding hex_digit
 hex_digit_capital b from upto =
     if_false _ _ (between_high 0x30 0x39 b (omega arith))
@@ -41,25 +42,25 @@ hex_digit_capital b from upto =
 -- either case
 pub either_case : (b : ℕ) → 0x41 ≤ b → b ≤ 0x46 → hex_digit b ≡ hex_digit (b + 0x20)
 either_case b from upto =
-    hex_digit_capital b from upto ∙ ap some (omega arith) ∙ sym (hex_digit_small (b + 0x20) (omega arith) (omega arith))
+    hex_digit_capital b from upto ∙ ap Some (omega arith) ∙ sym (hex_digit_small (b + 0x20) (omega arith) (omega arith))
 
 -- the digits that are written are read back
-pub hex_digit_digit : (d : ℕ) → d < 16 → hex_digit (digit d) ≡ some d
+pub hex_digit_digit : (d : ℕ) → d < 16 → hex_digit (digit d) ≡ Some d
 unfolding digit
 hex_digit_digit d below =
     by_order d 10
     (λ less.
     ap hex_digit (if_true (0x30 + d) (0x61 + (d - 10)) (lt-ltb d 10 less))
     ∙ hex_digit_figure (0x30 + d) (omega arith) (omega arith)
-    ∙ ap some (omega arith))
+    ∙ ap Some (omega arith))
     (λ more.
     ap hex_digit (if_false (0x30 + d) (0x61 + (d - 10)) (le-ltb d 10 more))
     ∙ hex_digit_small (0x61 + (d - 10)) (omega arith) (omega arith)
-    ∙ ap some (omega arith))
+    ∙ ap Some (omega arith))
 
 -- by what a byte is
 by_hex {ℓ} : {P : Type ℓ} (b : ℕ) → (0x30 ≤ b → b ≤ 0x39 → P) → (0x61 ≤ b → b ≤ 0x66 → P)
-    → (0x41 ≤ b → b ≤ 0x46 → P) → (hex_digit b ≡ none → P) → P
+    → (0x41 ≤ b → b ≤ 0x46 → P) → (hex_digit b ≡ None → P) → P
 unfolding hex_digit
 by_hex b figure small capital other =
     by_test (between 0x30 0x39 b)
@@ -73,49 +74,49 @@ by_hex b figure small capital other =
     (λ no_capital. other (if_false _ _ no_figure ∙ if_false _ _ no_small ∙ if_false _ _ no_capital))))
 
 -- a digit's value is below 16
-pub hex_digit_below : (b d : ℕ) → hex_digit b ≡ some d → d < 16
+pub hex_digit_below : (b d : ℕ) → hex_digit b ≡ Some d → d < 16
 hex_digit_below b d e =
     by_hex b
-    (λ from upto. omega (arith, some-injective d (b - 0x30) (sym e ∙ hex_digit_figure b from upto)))
-    (λ from upto. omega (arith, some-injective d (b - 0x61 + 10) (sym e ∙ hex_digit_small b from upto)))
-    (λ from upto. omega (arith, some-injective d (b - 0x41 + 10) (sym e ∙ hex_digit_capital b from upto)))
-    (λ other. absurd (none-ne-some d (sym other ∙ e)))
+    (λ from upto. omega (arith, same_Some d (b - 0x30) (sym e ∙ hex_digit_figure b from upto)))
+    (λ from upto. omega (arith, same_Some d (b - 0x61 + 10) (sym e ∙ hex_digit_small b from upto)))
+    (λ from upto. omega (arith, same_Some d (b - 0x41 + 10) (sym e ∙ hex_digit_capital b from upto)))
+    (λ other. absurd (none-some d (sym other ∙ e)))
 
 -- the value with its mark: a value where it is below the mark, and none where it is not
-pub digit_value_some : (b d : ℕ) → hex_digit b ≡ some d → digit_value b ≡ d
+pub digit_value_some : (b d : ℕ) → hex_digit b ≡ Some d → digit_value b ≡ d
 unfolding digit_value
 digit_value_some b d e = rw (e, digit_value)
 
-pub digit_value_none : (b : ℕ) → hex_digit b ≡ none → digit_value b ≡ no_digit
+pub digit_value_none : (b : ℕ) → hex_digit b ≡ None → digit_value b ≡ no_digit
 unfolding digit_value
 digit_value_none b e = rw (e, digit_value)
 
-pub value_some : (b : ℕ) → digit_value b < no_digit → hex_digit b ≡ some (digit_value b)
+pub value_some : (b : ℕ) → digit_value b < no_digit → hex_digit b ≡ Some (digit_value b)
 value_some b below =
     by_found (hex_digit b)
-    (λ d e. e ∙ ap some (sym (digit_value_some b d e)))
+    (λ d e. e ∙ ap Some (sym (digit_value_some b d e)))
     (λ e. absurd (omega (arith, digit_value_none b e)))
 
-pub value_none : (b : ℕ) → no_digit ≤ digit_value b → hex_digit b ≡ none
+pub value_none : (b : ℕ) → no_digit ≤ digit_value b → hex_digit b ≡ None
 value_none b mark =
     by_found (hex_digit b)
     (λ d e. absurd (omega (arith, digit_value_some b d e, hex_digit_below b d e)))
     (λ e. e)
 
 -- neither a line feed nor a carriage return is a digit
-pub no_line_feed : hex_digit line_feed ≡ none
+pub no_line_feed : hex_digit line_feed ≡ None
 unfolding hex_digit
 no_line_feed = refl
 
-pub no_carriage_return : hex_digit 0x0d ≡ none
+pub no_carriage_return : hex_digit 0x0d ≡ None
 unfolding hex_digit
 no_carriage_return = refl
 
 -- ---- numbers
 
 -- a text in which a byte is no digit says no number
-pub number_none : (n : ℕ) (bs : List ℕ) (k : ℕ) → k < length bs → hex_digit (get_or bs k 0) ≡ none
-    → number_on n bs ≡ none
+pub number_none : (n : ℕ) (bs : List ℕ) (k : ℕ) → k < length bs → hex_digit (get_or bs k 0) ≡ None
+    → number_on n bs ≡ None
 number_none n [] k below e = absurd (omega arith)
 number_none n (b ∷ bs) zero below e = number_stop n b bs e
 number_none n (b ∷ bs) (suc k) below e =
@@ -124,20 +125,20 @@ number_none n (b ∷ bs) (suc k) below e =
     (λ f. number_stop n b bs f)
 
 -- and a text of digits says one
-pub number_some : (n : ℕ) (bs : List ℕ) → ((k : ℕ) → k < length bs → hex_digit (get_or bs k 0) ≢ none)
-    → (v : ℕ) × (number_on n bs ≡ some v)
+pub number_some : (n : ℕ) (bs : List ℕ) → ((k : ℕ) → k < length bs → hex_digit (get_or bs k 0) ≢ None)
+    → (v : ℕ) × (number_on n bs ≡ Some v)
 number_some n [] all = (n, number_nil n)
 number_some n (b ∷ bs) all =
     by_found (hex_digit b)
     (λ d f.
-    let rest : (v : ℕ) × (number_on (16 * n + d) bs ≡ some v) =
+    let rest : (v : ℕ) × (number_on (16 * n + d) bs ≡ Some v) =
     number_some (16 * n + d) bs (λ k below. all (suc k) (omega arith)) in
     (rest.0, number_cons n b d bs f ∙ rest.1))
     (λ f. absurd (all zero (omega arith) f))
 
 -- a number of k digits, read on from n, is below (n + 1) x 16 ^ k
-pub number_below : (n : ℕ) (bs : List ℕ) (v : ℕ) → number_on n bs ≡ some v → v < (n + 1) * 16 ^ length bs
-number_below n [] v e = omega (arith, some-injective n v (sym (number_nil n) ∙ e))
+pub number_below : (n : ℕ) (bs : List ℕ) (v : ℕ) → number_on n bs ≡ Some v → v < (n + 1) * 16 ^ length bs
+number_below n [] v e = omega (arith, same_Some n v (sym (number_nil n) ∙ e))
 number_below n (b ∷ bs) v e =
     by_found (hex_digit b)
     (λ d f.
@@ -148,10 +149,10 @@ number_below n (b ∷ bs) v e =
     (subst (λ m. (16 * n + d + 1) * 16 ^ length bs ≤ m)
     (mul_assoc (n + 1) 16 (16 ^ length bs) ∙ ap (λ p. (n + 1) * p) (sym (pow-succ' 16 (length bs))))
     (mul-le-mul_right (16 ^ length bs) (omega arith))))
-    (λ f. absurd (none-ne-some v (sym (number_stop n b bs f) ∙ e)))
+    (λ f. absurd (none-some v (sym (number_stop n b bs f) ∙ e)))
 
 -- at most n digits say a number below 16 ^ n
-pub number_fits : (n : ℕ) (bs : List ℕ) (v : ℕ) → number (take n bs) ≡ some v → v < 16 ^ n
+pub number_fits : (n : ℕ) (bs : List ℕ) (v : ℕ) → number (take n bs) ≡ Some v → v < 16 ^ n
 unfolding number
 number_fits n bs v e =
     let few : length (take n bs) ≤ n = subst (λ k. k ≤ n) (sym (length-take n bs)) (min-le_left n (length bs)) in
@@ -171,21 +172,21 @@ carry m d c r =
     ∙ add_assoc (m * (16 * c)) (d * c) r
 
 -- what is written in k digits is read back, on top of what was read before
-number_on_digits : (k m n : ℕ) → number_on m (digits k n) ≡ some (m * 16 ^ k + n % 16 ^ k)
-number_on_digits zero m n = ap (number_on m) (digits_zero n) ∙ number_nil m ∙ ap some (omega (arith, mod-one n))
+number_on_digits : (k m n : ℕ) → number_on m (digits k n) ≡ Some (m * 16 ^ k + n % 16 ^ k)
+number_on_digits zero m n = ap (number_on m) (digits_zero n) ∙ number_nil m ∙ ap Some (omega (arith, mod-one n))
 number_on_digits (suc k) m n =
     let d : ℕ = n / 16 ^ k % 16 in
     ap (number_on m) (digits_suc k n)
     ∙ number_cons m (digit d) d (digits k n) (hex_digit_digit d (mod-lt (n / 16 ^ k) (omega arith)))
     ∙ number_on_digits k (16 * m + d) n
-    ∙ ap some
+    ∙ ap Some
     (carry m d (16 ^ k) (n % 16 ^ k)
     ∙ ap (λ r. m * (16 * 16 ^ k) + r) (sym (mod-mul n (omega arith) (one-le-pow k 16 (omega arith))))
     ∙ ap (λ p. m * p + n % p) (sym (pow-succ' 16 k)))
 
-pub number_digits : (k n : ℕ) → n < 16 ^ k → number (digits k n) ≡ some n
+pub number_digits : (k n : ℕ) → n < 16 ^ k → number (digits k n) ≡ Some n
 unfolding number
-number_digits k n below = number_on_digits k 0 n ∙ ap some (zero_mul_add (16 ^ k) (n % 16 ^ k) ∙ mod-eq_of_lt below)
+number_digits k n below = number_on_digits k 0 n ∙ ap Some (zero_mul_add (16 ^ k) (n % 16 ^ k) ∙ mod-eq_of_lt below)
   where
     zero_mul_add : (a b : ℕ) → 0 * a + b ≡ b
     zero_mul_add a b = omega arith
@@ -204,7 +205,7 @@ length_part line i n room = length-take-le n (drop i line) (omega (arith, length
 
 -- a part of a line in which a byte is no digit says no number
 part_none : (line : List ℕ) (i n k : ℕ) → i + n ≤ length line → i ≤ k → k < i + n
-    → hex_digit (get_or line k 0) ≡ none → number (take n (drop i line)) ≡ none
+    → hex_digit (get_or line k 0) ≡ None → number (take n (drop i line)) ≡ None
 unfolding number
 part_none line i n k room from below e =
     number_none 0 (take n (drop i line)) (k - i) (omega (arith, length_part line i n room))
@@ -212,8 +213,8 @@ part_none line i n k room from below e =
 
 -- and one of digits says one
 part_some : (line : List ℕ) (i n : ℕ) → i + n ≤ length line
-    → ((k : ℕ) → i ≤ k → k < i + n → hex_digit (get_or line k 0) ≢ none)
-    → (v : ℕ) × (number (take n (drop i line)) ≡ some v)
+    → ((k : ℕ) → i ≤ k → k < i + n → hex_digit (get_or line k 0) ≢ None)
+    → (v : ℕ) × (number (take n (drop i line)) ≡ Some v)
 unfolding number
 part_some line i n room all =
     number_some 0 (take n (drop i line))
@@ -236,7 +237,7 @@ module _ {A : Type 0} where
   -- each field of what was written reads back as its number, where that fits its digits
   pub read_written : (fields : List (Field A)) (a : A) (k : ℕ) (rest : List ℕ)
       → number_of fields k a < 16 ^ width_of fields k
-      → read_field fields k (written fields a ++ rest) ≡ some (number_of fields k a)
+      → read_field fields k (written fields a ++ rest) ≡ Some (number_of fields k a)
   unfolding read_field number
   read_written [] a k rest fits = number_nil 0
   read_written (f ∷ fields) a zero rest fits =
@@ -258,12 +259,12 @@ module _ {A : Type 0} where
 
   -- and nothing behind them
   pub read_back : (fields : List (Field A)) (a : A) (k : ℕ) → number_of fields k a < 16 ^ width_of fields k
-      → read_field fields k (written fields a) ≡ some (number_of fields k a)
+      → read_field fields k (written fields a) ≡ Some (number_of fields k a)
   read_back fields a k fits =
       ap (read_field fields k) (sym (append-nil (written fields a))) ∙ read_written fields a k [] fits
 
   -- what a field says fits its digits
-  pub read_fits : (fields : List (Field A)) (k : ℕ) (line : List ℕ) (v : ℕ) → read_field fields k line ≡ some v
+  pub read_fits : (fields : List (Field A)) (k : ℕ) (line : List ℕ) (v : ℕ) → read_field fields k line ≡ Some v
       → v < 16 ^ width_of fields k
   unfolding read_field
   read_fits fields k line v e = number_fits (width_of fields k) (drop (start_of fields k) line) v e
@@ -271,7 +272,7 @@ module _ {A : Type 0} where
   -- a field in which a byte is no digit says no number, and one of digits says one
   pub field_none : (fields : List (Field A)) (k : ℕ) (line : List ℕ) (i : ℕ)
       → start_of fields k + width_of fields k ≤ length line → start_of fields k ≤ i
-      → i < start_of fields k + width_of fields k → hex_digit (get_or line i 0) ≡ none → read_field fields k line ≡ none
+      → i < start_of fields k + width_of fields k → hex_digit (get_or line i 0) ≡ None → read_field fields k line ≡ None
   unfolding read_field
   field_none fields k line i room from below e =
       part_none line (start_of fields k) (width_of fields k) i room from below e
@@ -279,8 +280,8 @@ module _ {A : Type 0} where
   pub field_some : (fields : List (Field A)) (k : ℕ) (line : List ℕ)
       → start_of fields k + width_of fields k ≤ length line
       → ((i : ℕ) → start_of fields k ≤ i → i < start_of fields k + width_of fields k
-      → hex_digit (get_or line i 0) ≢ none)
-      → (v : ℕ) × (read_field fields k line ≡ some v)
+      → hex_digit (get_or line i 0) ≢ None)
+      → (v : ℕ) × (read_field fields k line ≡ Some v)
   unfolding read_field
   field_some fields k line room all = part_some line (start_of fields k) (width_of fields k) room all
 

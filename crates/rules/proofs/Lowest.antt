@@ -4,16 +4,16 @@ use Prim.Native.Nat.{ℕ, zero, suc, ◌+◌, ◌-◌, ◌*◌, ◌≤◌, ◌<�
 use native.Mathlib.Nat.{eq-or-lt_of_le, not-suc-le-zero, suc-mul}
 use native.Mathlib.Numerals.{add-one}
 use native.Mathlib.Omega.{arith}
-use mathlib.Core.Path.{◌≡◌, refl, sym, ap, ap₂, subst, ◌∙◌}
+use mathlib.Core.Path.{◌≡◌, sym, ap, ap₂, subst, ◌∙◌}
 use mathlib.Core.Logic.{◌≢◌, ⊎_elim}
 use mathlib.Core.Bool.{Bool, true, false, not, true≢false}
-use mathlib.Core.Option.{Option, none, some, some-injective, none-ne-some}
 use mathlib.Core.List.{List}
 use lib.ListN.{length, get_or}
 use lib.Dec.{eqb}
 use borrow.Author.Tests.{eqb-true, eq-eqb, not-false}
-use Rattle.rules.specs.declared.Found.TheVariants.{One, Nothing}
-use Rattle.rules.specs.Lowest.{lowest, found, answered, all_equal, every_entry, total, lowest_zero, lowest_here}
+use Rattle.std.specs.Prelude.{Some, None}
+use Rattle.std.proofs.lemmas.Option.{same_Some, none-some}
+use Rattle.rules.specs.Lowest.{lowest, found, all_equal, every_entry, total, lowest_zero, lowest_here}
 use Rattle.rules.specs.Lowest.{lowest_later, total_zero, total_suc, AllEqual}
 use Rattle.rules.proofs.Tests.{by_found, by_order, by_test}
 
@@ -45,12 +45,12 @@ pub and_next : (P : ℕ → Type 0) (i k : ℕ) → ((j : ℕ) → i ≤ j → j
 and_next P i k before here j from below =
     by_order j k (λ less. before j from less) (λ more. let same : k ≡ j = omega arith in subst P same here)
 
-pub lowest_some : (test : ℕ → Bool) (n i k : ℕ) → lowest test n i ≡ some k → Lowest test n i k
-lowest_some test zero i k e = absurd (none-ne-some k (sym (lowest_zero test i) ∙ e))
+pub lowest_some : (test : ℕ → Bool) (n i k : ℕ) → lowest test n i ≡ Some k → Lowest test n i k
+lowest_some test zero i k e = absurd (none-some k (sym (lowest_zero test i) ∙ e))
 lowest_some test (suc n) i k e =
     by_test (test i)
     (λ passes.
-    subst (λ m. Lowest test (suc n) i m) (some-injective i k (sym (lowest_here test n i passes) ∙ e))
+    subst (λ m. Lowest test (suc n) i m) (same_Some i k (sym (lowest_here test n i passes) ∙ e))
     (record { from = omega arith; below = omega arith; passes = passes; first = λ j a b. absurd (omega arith) }))
     (λ fails.
     let above : Lowest test n (suc i) k = lowest_some test n (suc i) k (sym (lowest_later test n i fails) ∙ e) in
@@ -62,11 +62,11 @@ lowest_some test (suc n) i k e =
           (λ m. test m ≡ false) i fails k above.first;
     })
 
-pub lowest_none : (test : ℕ → Bool) (n i : ℕ) → lowest test n i ≡ none → NonePasses test n i
+pub lowest_none : (test : ℕ → Bool) (n i : ℕ) → lowest test n i ≡ None → NonePasses test n i
 lowest_none test zero i e j from below = absurd (omega arith)
 lowest_none test (suc n) i e j from below =
     by_test (test i)
-    (λ passes. absurd (none-ne-some i (sym e ∙ lowest_here test n i passes)))
+    (λ passes. absurd (none-some i (sym e ∙ lowest_here test n i passes)))
     (λ fails.
     from_here (λ m. test m ≡ false) i fails (suc i + n)
     (lowest_none test n (suc i) (sym (lowest_later test n i fails) ∙ e)) j from (omega arith))
@@ -81,13 +81,13 @@ lowest_unique {j = j} {k = k} a b =
     let down : k < j → ⊥ = not_below b a in
     omega arith
 
-pub lowest_is : (test : ℕ → Bool) (n i k : ℕ) → Lowest test n i k → lowest test n i ≡ some k
+pub lowest_is : (test : ℕ → Bool) (n i k : ℕ) → Lowest test n i k → lowest test n i ≡ Some k
 lowest_is test n i k l =
     by_found (lowest test n i)
-    (λ j e. e ∙ ap some (lowest_unique (lowest_some test n i j e) l))
+    (λ j e. e ∙ ap Some (lowest_unique (lowest_some test n i j e) l))
     (λ e. absurd (true≢false (sym l.passes ∙ lowest_none test n i e k l.from l.below)))
 
-pub lowest_no : (test : ℕ → Bool) (n i : ℕ) → NonePasses test n i → lowest test n i ≡ none
+pub lowest_no : (test : ℕ → Bool) (n i : ℕ) → NonePasses test n i → lowest test n i ≡ None
 lowest_no test n i fails =
     by_found (lowest test n i)
     (λ j e.
@@ -131,7 +131,7 @@ lowest_skip test n m i fails =
 pub walk_start : (test : ℕ → Bool) (e : ℕ) → lowest test e 0 ≡ lowest test (e - 0) 0
 walk_start test e = let all : e ≡ e - 0 = omega arith in ap (λ n. lowest test n 0) all
 
-pub walk_found : (test : ℕ → Bool) (e i : ℕ) → i < e → test i ≡ true → lowest test (e - i) i ≡ some i
+pub walk_found : (test : ℕ → Bool) (e i : ℕ) → i < e → test i ≡ true → lowest test (e - i) i ≡ Some i
 walk_found test e i below passes =
     let left : e - i ≡ suc (e - suc i) = omega arith in
     ap (λ n. lowest test n i) left ∙ lowest_here test (e - suc i) i passes
@@ -143,13 +143,13 @@ walk_on test e i below fails =
     ap (λ n. lowest test n i) left ∙ lowest_later test (e - (i + 1)) i fails
     ∙ ap (lowest test (e - (i + 1))) (sym (add-one i))
 
-pub walk_end : (test : ℕ → Bool) (e i : ℕ) → e ≤ i → lowest test (e - i) i ≡ none
+pub walk_end : (test : ℕ → Bool) (e i : ℕ) → e ≤ i → lowest test (e - i) i ≡ None
 walk_end test e i end =
     let left : e - i ≡ zero = omega arith in
     ap (λ n. lowest test n i) left ∙ lowest_zero test i
 
 -- one number more: what was found before it stays, and else it may be that one
-pub one_more_found : (test : ℕ → Bool) (n k : ℕ) → lowest test n 0 ≡ some k → lowest test (suc n) 0 ≡ some k
+pub one_more_found : (test : ℕ → Bool) (n k : ℕ) → lowest test n 0 ≡ Some k → lowest test (suc n) 0 ≡ Some k
 one_more_found test n k e =
     let l : Lowest test n 0 k = lowest_some test n 0 k e in
     lowest_is test (suc n) 0 k (record {
@@ -160,7 +160,7 @@ one_more_found test n k e =
           l.first;
     })
 
-pub one_more_here : (test : ℕ → Bool) (n : ℕ) → lowest test n 0 ≡ none → test n ≡ true → lowest test (suc n) 0 ≡ some n
+pub one_more_here : (test : ℕ → Bool) (n : ℕ) → lowest test n 0 ≡ None → test n ≡ true → lowest test (suc n) 0 ≡ Some n
 one_more_here test n e passes =
     lowest_is test (suc n) 0 n
     (record {
@@ -171,22 +171,13 @@ one_more_here test n e passes =
           λ j from below. lowest_none test n 0 e j from (omega arith);
     })
 
-pub one_more_none : (test : ℕ → Bool) (n : ℕ) → lowest test n 0 ≡ none → test n ≡ false → lowest test (suc n) 0 ≡ none
+pub one_more_none : (test : ℕ → Bool) (n : ℕ) → lowest test n 0 ≡ None → test n ≡ false → lowest test (suc n) 0 ≡ None
 one_more_none test n e fails =
     lowest_no test (suc n) 0
     (λ j from below.
     by_order j n
     (λ less. lowest_none test n 0 e j from (omega arith))
     (λ last. let same : n ≡ j = omega arith in subst (λ m. test m ≡ false) same fails))
-
--- what was answered, taken back
-pub answered_one : (o : Option ℕ) (k : ℕ) → One k ≡ answered o → o ≡ some k
-answered_one none k e = cc
-answered_one (some j) k e = cc
-
-pub answered_nothing : (o : Option ℕ) → Nothing ≡ answered o → o ≡ none
-answered_nothing none e = refl
-answered_nothing (some j) e = cc
 
 -- ---- a window
 

@@ -5,13 +5,13 @@ use native.Mathlib.Omega.{arith}
 use mathlib.Core.Path.{◌≡◌, refl, sym, ap, subst, ◌∙◌}
 use mathlib.Core.Logic.{◌≢◌}
 use mathlib.Core.Bool.{true, false}
-use mathlib.Core.Option.{none, some, none-ne-some}
 use mathlib.Core.List.{List}
 use lib.ListN.{length}
+use Rattle.std.specs.Prelude.{Some, None, Ok, Err}
+use Rattle.std.proofs.lemmas.Option.{none-some}
+use Rattle.rules.specs.declared.Refusal.TheVariants.{BadKind, NotZero, NotGood}
 use Rattle.rules.specs.declared.Session.{Session}
-use Rattle.rules.specs.declared.Answer.TheVariants.{Done, BadKind, NotZero, NotGood}
-use Rattle.rules.specs.declared.Frame.{Frame}
-use Rattle.rules.specs.declared.Frame.TheVariants.{Grant, Release, Read, Write, Refused}
+use Rattle.rules.specs.declared.Frame.TheVariants.{Grant, Release, Read, Write}
 use Rattle.rules.specs.declared.Region.{Region}
 use Rattle.rules.specs.Limits.{between, least_granules, most_granules, least_redzone, most_redzone, kind_grant}
 use Rattle.rules.specs.Limits.{kind_release, kind_read, kind_write, live, quarantined}
@@ -19,7 +19,7 @@ use Rattle.rules.specs.Answers.{in_numbers, status, opening_status, call_in_numb
 use Rattle.rules.specs.Shadow.{kind, first_bad, FirstBad}
 use Rattle.rules.specs.Grant.{counted, granules, place, empty_row, grant_at, grant}
 use Rattle.rules.specs.Release.{row_at, release_row, release}
-use Rattle.rules.specs.Frames.{fields, frame}
+use Rattle.rules.specs.Frames.{Asked, fields, frame}
 use Rattle.rules.specs.Watcher.{of_verdict, access, watcher, pool_of}
 use Rattle.rules.specs.Calls.{table_length, open_with, within_limits, fits_lent, grant_call, release_call}
 use Rattle.rules.specs.Calls.{access_call, unfinished_call, feed}
@@ -39,60 +39,60 @@ use Rattle.rules.proofs.Maps.{map_call_at}
 -- ---- grants: 05 and 06
 
 pub only_05 : (R : ℕ) (shadow table : List ℕ) (s : ℕ) → status (grant R shadow table s).answer ≡ 5 → empty_row table
-    ≡ none
+    ≡ None
 unfolding grant_at status in_numbers
 only_05 R shadow table s =
-    by_grant R shadow table s (λ acted. status acted.answer ≡ 5 → empty_row table ≡ none)
+    by_grant R shadow table s (λ acted. status acted.answer ≡ 5 → empty_row table ≡ None)
     (λ full e. full) (λ i row nowhere e. absurd (omega arith)) (λ i p row at e. absurd (omega arith))
 
 -- 06 is asked after 05: a row was empty
 pub only_06 : (R : ℕ) (shadow table : List ℕ) (s : ℕ) → status (grant R shadow table s).answer ≡ 6
-    → (empty_row table ≢ none) × (place shadow R (granules (counted s)) ≡ none)
+    → (empty_row table ≢ None) × (place shadow R (granules (counted s)) ≡ None)
 unfolding grant_at status in_numbers
 only_06 R shadow table s =
-    by_grant R shadow table s (λ acted. status acted.answer ≡ 6 → (empty_row table ≢ none)
-    × (place shadow R (granules (counted s)) ≡ none))
+    by_grant R shadow table s (λ acted. status acted.answer ≡ 6 → (empty_row table ≢ None)
+    × (place shadow R (granules (counted s)) ≡ None))
     (λ full e. absurd (omega arith))
-    (λ i row nowhere e. (λ full. none-ne-some i (sym full ∙ row), nowhere))
+    (λ i row nowhere e. (λ full. none-some i (sym full ∙ row), nowhere))
     (λ i p row at e. absurd (omega arith))
 
 -- ---- releases: 07 and 08
 
 pub only_07 : (R Q : ℕ) (shadow table : List ℕ) (a : ℕ) → status (release R Q shadow table a).answer ≡ 7
-    → (a ≢ 0) × (row_at live table a ≡ none) × (row_at quarantined table a ≡ none)
+    → (a ≢ 0) × (row_at live table a ≡ None) × (row_at quarantined table a ≡ None)
 unfolding release_row status in_numbers
 only_07 R Q shadow table a =
     by_release R Q shadow table a
-    (λ acted. status acted.answer ≡ 7 → (a ≢ 0) × (row_at live table a ≡ none) × (row_at quarantined table a ≡ none))
+    (λ acted. status acted.answer ≡ 7 → (a ≢ 0) × (row_at live table a ≡ None) × (row_at quarantined table a ≡ None))
     (λ e f. absurd (omega arith))
     (λ above no_live no_quarantined f. (above, no_live, no_quarantined))
     (λ above no_live i e f. absurd (omega arith))
     (λ above i e f. absurd (omega arith))
 
 pub only_08 : (R Q : ℕ) (shadow table : List ℕ) (a : ℕ) → status (release R Q shadow table a).answer ≡ 8
-    → (a ≢ 0) × (row_at live table a ≡ none) × (row_at quarantined table a ≢ none)
+    → (a ≢ 0) × (row_at live table a ≡ None) × (row_at quarantined table a ≢ None)
 unfolding release_row status in_numbers
 only_08 R Q shadow table a =
     by_release R Q shadow table a
-    (λ acted. status acted.answer ≡ 8 → (a ≢ 0) × (row_at live table a ≡ none) × (row_at quarantined table a ≢ none))
+    (λ acted. status acted.answer ≡ 8 → (a ≢ 0) × (row_at live table a ≡ None) × (row_at quarantined table a ≢ None))
     (λ e f. absurd (omega arith))
     (λ above no_live no_quarantined f. absurd (omega arith))
-    (λ above no_live i e f. (above, no_live, λ g. none-ne-some i (sym g ∙ e)))
+    (λ above no_live i e f. (above, no_live, λ g. none-some i (sym g ∙ e)))
     (λ above i e f. absurd (omega arith))
 
 -- ---- accesses: 09, with the first bad byte and its kind
 
-pub access_good : (shadow : List ℕ) (a n : ℕ) → first_bad shadow a n ≡ none → access shadow a n ≡ Done 0
+pub access_good : (shadow : List ℕ) (a n : ℕ) → first_bad shadow a n ≡ None → access shadow a n ≡ Ok 0
 unfolding access of_verdict
 access_good shadow a n e = ap of_verdict (verdict_none shadow a n e)
 
-pub access_bad : (shadow : List ℕ) (a n b : ℕ) → first_bad shadow a n ≡ some b → access shadow a n
-    ≡ NotGood (kind shadow b) b
+pub access_bad : (shadow : List ℕ) (a n b : ℕ) → first_bad shadow a n ≡ Some b → access shadow a n
+    ≡ Err (NotGood (kind shadow b) b)
 unfolding access of_verdict
 access_bad shadow a n b e = ap of_verdict (verdict_some shadow a n b e)
 
 pub only_09 : (shadow : List ℕ) (a n : ℕ) → status (access shadow a n) ≢ 0
-    → (b : ℕ) × FirstBad shadow a n b × (access shadow a n ≡ NotGood (kind shadow b) b)
+    → (b : ℕ) × FirstBad shadow a n b × (access shadow a n ≡ Err (NotGood (kind shadow b) b))
 unfolding status in_numbers
 only_09 shadow a n refused =
     by_found (first_bad shadow a n)
@@ -102,25 +102,22 @@ only_09 shadow a n refused =
 -- ---- lines: 01 to 03 (that 01 is given where a line is not 18 hex digits: `line_length`, `line_bad`)
 
 -- a frame's number, 0 where it is not refused
-unfoldable pub refusal : Frame → ℕ
-refusal (Grant s) = 0
-refusal (Release a) = 0
-refusal (Read a n) = 0
-refusal (Write a n) = 0
-refusal (Refused answer) = status answer
+unfoldable pub refusal : Asked → ℕ
+refusal (Ok frame) = 0
+refusal (Err why) = status (Err why)
 
 -- what a frame is, by its kind and B
-by_frame : (kind A B : ℕ) (P : Frame → Type 0)
-    → ((k : Frame) → refusal k ≡ 0 → P k)
-    → (kind ≢ kind_grant → kind ≢ kind_release → kind ≢ kind_read → kind ≢ kind_write → P (Refused BadKind))
-    → (B ≢ 0 → kind_grant ≤ kind → kind ≤ kind_release → P (Refused NotZero)) → P (frame (fields kind A B))
+by_frame : (kind A B : ℕ) (P : Asked → Type 0)
+    → ((k : Asked) → refusal k ≡ 0 → P k)
+    → (kind ≢ kind_grant → kind ≢ kind_release → kind ≢ kind_read → kind ≢ kind_write → P ((Err BadKind)))
+    → (B ≢ 0 → kind_grant ≤ kind → kind ≤ kind_release → P ((Err NotZero))) → P (frame (fields kind A B))
 unfolding refusal
 by_frame kind A B P asked other not_zero =
     by_kind kind A B P
-    (λ e. by_zero B (Grant A) P (asked (Grant A) refl) (λ above. not_zero above (omega arith) (omega arith)))
-    (λ e. by_zero B (Release A) P (asked (Release A) refl) (λ above. not_zero above (omega arith) (omega arith)))
-    (λ e. asked (Read A B) refl)
-    (λ e. asked (Write A B) refl)
+    (λ e. by_zero B (Grant A) P (asked (Ok (Grant A)) refl) (λ above. not_zero above (omega arith) (omega arith)))
+    (λ e. by_zero B (Release A) P (asked (Ok (Release A)) refl) (λ above. not_zero above (omega arith) (omega arith)))
+    (λ e. asked (Ok (Read A B)) refl)
+    (λ e. asked (Ok (Write A B)) refl)
     other
 
 -- 18 hex digits are never refused 01

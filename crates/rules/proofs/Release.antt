@@ -8,12 +8,13 @@ use native.Mathlib.Omega.{arith}
 use mathlib.Core.Path.{◌≡◌, refl, sym, ap, ap₂, subst, ◌∙◌}
 use mathlib.Core.Logic.{◌≢◌}
 use mathlib.Core.Bool.{true, false, ◌&&◌, true≢false, and-eq-true_iff}
-use mathlib.Core.Option.{none, some, none-ne-some, some-injective}
 use mathlib.Core.List.{List}
 use lib.ListN.{length, get_or}
 use lib.Dec.{eqb}
 use borrow.Author.Tests.{eqb-true, eq-eqb, ne_eqb, lt-ltb, le-ltb}
-use Rattle.rules.specs.declared.Answer.TheVariants.{Done, NotHeld, Released}
+use Rattle.std.specs.Prelude.{Some, None, Ok, Err}
+use Rattle.std.proofs.lemmas.Option.{same_Some, none-some}
+use Rattle.rules.specs.declared.Refusal.TheVariants.{NotHeld, Released}
 use Rattle.rules.specs.Limits.{granule, size_column, state_column, turn_column, row_numbers, most_redzone}
 use Rattle.rules.specs.Limits.{redzone_byte, released_byte, live, quarantined}
 use Rattle.rules.specs.Lowest.{total}
@@ -35,15 +36,15 @@ use Rattle.rules.proofs.Grant.{SameLengths}
 
 -- ---- the oldest
 
-pub older_none : (table : List ℕ) (n : ℕ) → older table none n ≡ n
+pub older_none : (table : List ℕ) (n : ℕ) → older table None n ≡ n
 unfolding older
 older_none table n = refl
 
-pub older_lower : (table : List ℕ) (i n : ℕ) → turn table n < turn table i → older table (some i) n ≡ n
+pub older_lower : (table : List ℕ) (i n : ℕ) → turn table n < turn table i → older table (Some i) n ≡ n
 unfolding older
 older_lower table i n less = if_true _ _ (lt-ltb (turn table n) (turn table i) less)
 
-pub older_kept : (table : List ℕ) (i n : ℕ) → turn table i ≤ turn table n → older table (some i) n ≡ i
+pub older_kept : (table : List ℕ) (i n : ℕ) → turn table i ≤ turn table n → older table (Some i) n ≡ i
 unfolding older
 older_kept table i n more = if_false _ _ (le-ltb (turn table n) (turn table i) more)
 
@@ -54,11 +55,11 @@ pub record Oldest (table : List ℕ) (n i : ℕ) : Type 0 where
   pub least : (j : ℕ) → j < n → is_quarantined table j ≡ true → turn table i ≤ turn table j
   pub first : (j : ℕ) → j < i → is_quarantined table j ≡ true → turn table i < turn table j
 
-pub oldest_none : (table : List ℕ) (n : ℕ) → oldest table n ≡ none → (j : ℕ) → j < n → is_quarantined table j ≡ false
+pub oldest_none : (table : List ℕ) (n : ℕ) → oldest table n ≡ None → (j : ℕ) → j < n → is_quarantined table j ≡ false
 oldest_none table zero e j below = absurd (omega arith)
 oldest_none table (suc n) e j below =
     by_test (is_quarantined table n)
-    (λ here. absurd (none-ne-some (older table (oldest table n) n) (sym e ∙ oldest_here table n here)))
+    (λ here. absurd (none-some (older table (oldest table n) n) (sym e ∙ oldest_here table n here)))
     (λ other.
     by_order j n
     (λ less. oldest_none table n (sym (oldest_other table n other) ∙ e) j less)
@@ -68,17 +69,17 @@ oldest_none table (suc n) e j below =
 upto : (P : ℕ → Type 0) (n : ℕ) → P n → ((j : ℕ) → j < n → P j) → (j : ℕ) → j < suc n → P j
 upto P n here before j below = by_order j n (before j) (λ more. let last : n ≡ j = omega arith in subst P last here)
 
-pub oldest_some : (table : List ℕ) (n i : ℕ) → oldest table n ≡ some i → Oldest table n i
-oldest_some table zero i e = absurd (none-ne-some i (sym (oldest_zero table) ∙ e))
+pub oldest_some : (table : List ℕ) (n i : ℕ) → oldest table n ≡ Some i → Oldest table n i
+oldest_some table zero i e = absurd (none-some i (sym (oldest_zero table) ∙ e))
 oldest_some table (suc n) i e =
     by_test (is_quarantined table n)
     (λ here.
     let chosen : older table (oldest table n) n ≡ i =
-    some-injective (older table (oldest table n) n) i (sym (oldest_here table n here) ∙ e) in
+    same_Some (older table (oldest table n) n) i (sym (oldest_here table n here) ∙ e) in
     by_found (oldest table n)
     (λ k found·.
     let o : Oldest table n k = oldest_some table n k found· in
-    let chosen_of : older table (some k) n ≡ i = ap (λ f. older table f n) (sym found·) ∙ chosen in
+    let chosen_of : older table (Some k) n ≡ i = ap (λ f. older table f n) (sym found·) ∙ chosen in
     by_order (turn table n) (turn table k)
     (λ lower.
     subst (Oldest table (suc n)) (sym (older_lower table k n lower) ∙ chosen_of)
@@ -119,14 +120,14 @@ oldest_some table (suc n) i e =
     })
 
 -- no second row fits
-pub oldest_is : (table : List ℕ) (n i : ℕ) → Oldest table n i → oldest table n ≡ some i
+pub oldest_is : (table : List ℕ) (n i : ℕ) → Oldest table n i → oldest table n ≡ Some i
 oldest_is table n i o =
     by_found (oldest table n)
     (λ k e.
     let p : Oldest table n k = oldest_some table n k e in
     let up : k < i → ⊥ = λ less. omega (arith, o.first k less p.held, p.least i o.below o.held) in
     let down : i < k → ⊥ = λ less. omega (arith, p.first i less o.held, o.least k p.below p.held) in
-    e ∙ ap some (omega arith))
+    e ∙ ap Some (omega arith))
     (λ e. absurd (true≢false (sym o.held ∙ oldest_none table n e i o.below)))
 
 -- it goes by the states and turns of those rows alone
@@ -269,7 +270,7 @@ module _ (pool : Pool) (i : ℕ) (below : i < rows pool.table) where
       )) in
       let own : part_quarantined f table i ≡ f (size table i) =
       if_quarantined_yes table (λ j. f (size table j)) i held in
-      let none· : part_quarantined f other i ≡ 0 =
+      let None· : part_quarantined f other i ≡ 0 =
       if_quarantined_no other (λ j. f (size other j)) i
       (ne_eqb (state other i) quarantined (omega (arith, evict_row_empty state_column (omega arith)))) in
       omega arith
@@ -318,7 +319,7 @@ evict_row_shadow pool i = refl
 
 -- ---- evictions
 
-pub evict_oldest_is : (pool : Pool) (i : ℕ) → oldest pool.table (rows pool.table) ≡ some i → evict_oldest pool
+pub evict_oldest_is : (pool : Pool) (i : ℕ) → oldest pool.table (rows pool.table) ≡ Some i → evict_oldest pool
     ≡ evict_row pool i
 unfolding evict_oldest
 evict_oldest_is pool i e = rw (e, evict_oldest)
@@ -332,7 +333,7 @@ weights_of R table i below held =
     omega (arith, le_total f (rows table) i below, if_quarantined_yes table (λ j. weight R (size table j)) i held)
 
 -- where the weights are above a number, a row is quarantined, and so one is the oldest
-pub some_oldest : (R Q : ℕ) (table : List ℕ) → Q < weights R table → (i : ℕ) × (oldest table (rows table) ≡ some i)
+pub some_oldest : (R Q : ℕ) (table : List ℕ) → Q < weights R table → (i : ℕ) × (oldest table (rows table) ≡ Some i)
 unfolding weights
 some_oldest R Q table heavy =
     by_found (oldest table (rows table))
@@ -340,7 +341,7 @@ some_oldest R Q table heavy =
     (λ nothing.
     let f : ℕ → ℕ = if_quarantined table (λ j. weight R (size table j)) in
     let above : (k : ℕ) × (k < rows table) × (0 < f k) = total_above f (rows table) (omega arith) in
-    let none· : f above.0 ≡ 0 =
+    let None· : f above.0 ≡ 0 =
     if_quarantined_no table (λ j. weight R (size table j)) above.0
     (oldest_none table (rows table) nothing above.0 above.1) in
     absurd (omega (arith, above.2)))
@@ -350,7 +351,7 @@ pub evict_oldest_count : (R Q : ℕ) (pool : Pool) → Q < weights R pool.table
     → in_quarantine pool.table ≡ suc (in_quarantine (evict_oldest pool).table)
 evict_oldest_count R Q pool heavy =
     let i : ℕ = (some_oldest R Q pool.table heavy).0 in
-    let e : oldest pool.table (rows pool.table) ≡ some i = (some_oldest R Q pool.table heavy).1 in
+    let e : oldest pool.table (rows pool.table) ≡ Some i = (some_oldest R Q pool.table heavy).1 in
     let o : Oldest pool.table (rows pool.table) i = oldest_some pool.table (rows pool.table) i e in
     evict_row_count pool i o.below o.held
     ∙ ap (λ p. suc (in_quarantine p.table)) (sym (evict_oldest_is pool i e))
@@ -397,7 +398,7 @@ settled_has R Q P evicting =
     (λ pool light p. subst (λ s. P s.pool) (sym (settle_done R Q pool light)) p)
     (λ pool heavy ih p.
     let i : ℕ = (some_oldest R Q pool.table heavy).0 in
-    let e : oldest pool.table (rows pool.table) ≡ some i = (some_oldest R Q pool.table heavy).1 in
+    let e : oldest pool.table (rows pool.table) ≡ Some i = (some_oldest R Q pool.table heavy).1 in
     let o : Oldest pool.table (rows pool.table) i = oldest_some pool.table (rows pool.table) i e in
     subst (λ s. P s.pool) (sym (settle_more R Q pool heavy))
     (ih (subst P (sym (evict_oldest_is pool i e)) (evicting pool i o p))))
@@ -527,7 +528,7 @@ module _ (pool : Pool) (i : ℕ) (below : i < rows pool.table) where
       if_quarantined_yes held (λ j. f (size held j)) i (eq-eqb (state held i) quarantined quarantine_row_state) in
       let size_kept : f (size held i) ≡ f (size table i) =
       ap f (quarantine_row_own size_column (omega arith) (omega arith) (omega arith)) in
-      let none· : part_quarantined f table i ≡ 0 = if_quarantined_no table (λ j. f (size table j)) i other in
+      let None· : part_quarantined f table i ≡ 0 = if_quarantined_no table (λ j. f (size table j)) i other in
       omega arith
 
   pub quarantine_row_weights : (R : ℕ) → is_quarantined pool.table i ≡ false
@@ -551,8 +552,8 @@ module _ (pool : Pool) (i : ℕ) (below : i < rows pool.table) where
   each_row P own others j = elim (ℕ_discrete j i) [ yes e ↦ subst P (sym e) own | no other ↦ others j other ]
 
   -- where nothing else is quarantined it is the oldest
-  pub quarantine_row_alone : oldest pool.table (rows pool.table) ≡ none
-      → oldest (quarantine_row pool i).table (rows pool.table) ≡ some i
+  pub quarantine_row_alone : oldest pool.table (rows pool.table) ≡ None
+      → oldest (quarantine_row pool i).table (rows pool.table) ≡ Some i
   quarantine_row_alone nothing =
       let held : List ℕ = (quarantine_row pool i).table in
       let no_other : (j : ℕ) → j < rows pool.table → j ≢ i → is_quarantined held j ≡ true → ⊥ =
@@ -567,14 +568,14 @@ module _ (pool : Pool) (i : ℕ) (below : i < rows pool.table) where
         first = λ j b q. absurd (no_other j (omega arith) (λ e. absurd (omega arith)) q);
       })
 
-  module _ (k : ℕ) (e : oldest pool.table (rows pool.table) ≡ some k) where
+  module _ (k : ℕ) (e : oldest pool.table (rows pool.table) ≡ Some k) where
     o : Oldest pool.table (rows pool.table) k
     o = oldest_some pool.table (rows pool.table) k e
 
     -- where its turn is lower, or equal and it is the lower row, it is the oldest
     pub quarantine_row_oldest : k ≢ i → turn (quarantine_row pool i).table i ≤ turn pool.table k
         → (k < i → turn (quarantine_row pool i).table i < turn pool.table k)
-        → oldest (quarantine_row pool i).table (rows pool.table) ≡ some i
+        → oldest (quarantine_row pool i).table (rows pool.table) ≡ Some i
     quarantine_row_oldest apart lower strict =
         let held : List ℕ = (quarantine_row pool i).table in
         oldest_is held (rows pool.table) i
@@ -603,7 +604,7 @@ module _ (pool : Pool) (i : ℕ) (below : i < rows pool.table) where
     -- and else the one that was stays so
     pub quarantine_row_younger : k ≢ i → turn pool.table k ≤ turn (quarantine_row pool i).table i
         → (i < k → turn pool.table k < turn (quarantine_row pool i).table i)
-        → oldest (quarantine_row pool i).table (rows pool.table) ≡ some k
+        → oldest (quarantine_row pool i).table (rows pool.table) ≡ Some k
     quarantine_row_younger apart lower strict =
         let held : List ℕ = (quarantine_row pool i).table in
         let kept· : turn held k ≡ turn pool.table k = quarantine_row_other turn_column k (omega arith) apart in
@@ -655,7 +656,7 @@ at_is wanted table a i has at =
     (and-eq-true_iff (eqb (state table i) wanted) (starts_at table a i)).1
     (eq-eqb (state table i) wanted has, eq-eqb (granule * start table i) a at)
 
-pub row_at_some : (wanted : ℕ) (table : List ℕ) (a i : ℕ) → row_at wanted table a ≡ some i → StartsAt wanted table a i
+pub row_at_some : (wanted : ℕ) (table : List ℕ) (a i : ℕ) → row_at wanted table a ≡ Some i → StartsAt wanted table a i
 unfolding row_at
 row_at_some wanted table a i e =
     let l : Lowest (λ j. eqb (state table j) wanted && starts_at table a j) (rows table) 0 i =
@@ -667,7 +668,7 @@ row_at_some wanted table a i e =
       first = λ j less has at. true≢false (sym (at_is wanted table a j has at) ∙ l.first j zero-le less);
     }
 
-pub row_at_none : (wanted : ℕ) (table : List ℕ) (a : ℕ) → row_at wanted table a ≡ none
+pub row_at_none : (wanted : ℕ) (table : List ℕ) (a : ℕ) → row_at wanted table a ≡ None
     → (j : ℕ) → j < rows table → state table j ≡ wanted → granule * start table j ≢ a
 unfolding row_at
 row_at_none wanted table a e j below has at =
@@ -677,34 +678,34 @@ row_at_none wanted table a e j below has at =
 
 -- ---- a release
 
-pub release_nothing : (R Q : ℕ) (shadow table : List ℕ) → release R Q shadow table 0 ≡ unchanged (Done 0) shadow table
+pub release_nothing : (R Q : ℕ) (shadow table : List ℕ) → release R Q shadow table 0 ≡ unchanged (Ok 0) shadow table
 unfolding release
 release_nothing R Q shadow table = refl
 
-pub release_done : (R Q : ℕ) (shadow table : List ℕ) (a i : ℕ) → a ≢ 0 → row_at live table a ≡ some i
+pub release_done : (R Q : ℕ) (shadow table : List ℕ) (a i : ℕ) → a ≢ 0 → row_at live table a ≡ Some i
     → release R Q shadow table a ≡ release_row R Q (record { shadow = shadow; table = table }) i
 unfolding release
 release_done R Q shadow table a i above e = if_false _ _ (ne_eqb a 0 above) ∙ rw e
 
-pub release_twice : (R Q : ℕ) (shadow table : List ℕ) (a i : ℕ) → a ≢ 0 → row_at live table a ≡ none
-    → row_at quarantined table a ≡ some i
-    → release R Q shadow table a ≡ unchanged Released shadow table
+pub release_twice : (R Q : ℕ) (shadow table : List ℕ) (a i : ℕ) → a ≢ 0 → row_at live table a ≡ None
+    → row_at quarantined table a ≡ Some i
+    → release R Q shadow table a ≡ unchanged (Err Released) shadow table
 unfolding release
 release_twice R Q shadow table a i above e f = if_false _ _ (ne_eqb a 0 above) ∙ rw e (rw f)
 
-pub release_foreign : (R Q : ℕ) (shadow table : List ℕ) (a : ℕ) → a ≢ 0 → row_at live table a ≡ none
-    → row_at quarantined table a ≡ none
-    → release R Q shadow table a ≡ unchanged NotHeld shadow table
+pub release_foreign : (R Q : ℕ) (shadow table : List ℕ) (a : ℕ) → a ≢ 0 → row_at live table a ≡ None
+    → row_at quarantined table a ≡ None
+    → release R Q shadow table a ≡ unchanged (Err NotHeld) shadow table
 unfolding release
 release_foreign R Q shadow table a above e f = if_false _ _ (ne_eqb a 0 above) ∙ rw e (rw f)
 
 -- by what a release finds
 pub by_release {ℓ} : (R Q : ℕ) (shadow table : List ℕ) (a : ℕ) (P : Acted → Type ℓ)
-    → (a ≡ 0 → P (unchanged (Done 0) shadow table))
-    → (a ≢ 0 → row_at live table a ≡ none → row_at quarantined table a ≡ none → P (unchanged NotHeld shadow table))
-    → (a ≢ 0 → row_at live table a ≡ none → (i : ℕ) → row_at quarantined table a ≡ some i
-    → P (unchanged Released shadow table))
-    → (a ≢ 0 → (i : ℕ) → row_at live table a ≡ some i
+    → (a ≡ 0 → P (unchanged (Ok 0) shadow table))
+    → (a ≢ 0 → row_at live table a ≡ None → row_at quarantined table a ≡ None → P (unchanged (Err NotHeld) shadow table))
+    → (a ≢ 0 → row_at live table a ≡ None → (i : ℕ) → row_at quarantined table a ≡ Some i
+    → P (unchanged (Err Released) shadow table))
+    → (a ≢ 0 → (i : ℕ) → row_at live table a ≡ Some i
     → P (release_row R Q (record { shadow = shadow; table = table }) i))
     → P (release R Q shadow table a)
 by_release R Q shadow table a P nothing foreign twice done =

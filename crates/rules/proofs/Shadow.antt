@@ -3,18 +3,17 @@ use Prim.Native.Nat.{ℕ, suc, ◌+◌, ◌-◌, ◌*◌, ◌%◌, ◌^◌, ◌�
 use native.Mathlib.Omega.{arith}
 use mathlib.Core.Path.{◌≡◌, refl, sym, ap, subst, ◌∙◌}
 use mathlib.Core.Bool.{true, false, not, ◌||◌, true≢false, and-eq-true_iff}
-use mathlib.Core.Option.{none, some}
 use mathlib.Core.List.{List}
 use lib.ListN.{length}
 use lib.Dec.{eqb, ltb}
 use lib.IntN.{pos, negsuc}
 use lib.Signed.{lt_z}
 use borrow.Author.Tests.{ltb-true, not-true, not-false, lt-ltb, le-ltb, ne_eqb}
-use Rattle.rules.specs.declared.Verdict.{Verdict}
-use Rattle.rules.specs.declared.Verdict.TheVariants.{Good, Bad}
+use Rattle.std.specs.Prelude.{Some, None}
+use Rattle.rules.specs.declared.BadByte.{BadByte}
 use Rattle.rules.specs.Limits.{granule, most_granules, outside}
-use Rattle.rules.specs.Shadow.{leading, signed, negative, inside, shadow_of, addressable, kind, first_bad, judge}
-use Rattle.rules.specs.Shadow.{AllGood, FirstBad}
+use Rattle.rules.specs.Shadow.{leading, signed, negative, inside, shadow_of, addressable, kind, first_bad, good, bad}
+use Rattle.rules.specs.Shadow.{judge, Verdict, AllGood, FirstBad}
 use Rattle.rules.proofs.Tests.{by_found, by_order, by_test, if_false, if_true}
 use Rattle.rules.proofs.Lowest.{Lowest, lowest_some, lowest_none, lowest_is, lowest_no}
 
@@ -37,7 +36,7 @@ pub leading_most : (v : ℕ) → leading v ≤ granule
 leading_most v =
     by_order v granule
     (λ less. by_order 0 v (λ above. subst (λ m. m ≤ granule) (sym (leading_first v above less)) (omega arith))
-    (λ none·. let e : v ≡ 0 = omega arith in subst (λ m. leading m ≤ granule) (sym e)
+    (λ None·. let e : v ≡ 0 = omega arith in subst (λ m. leading m ≤ granule) (sym e)
     (subst (λ m. m ≤ granule) (sym leading_all) (omega arith))))
     (λ more. subst (λ m. m ≤ granule) (sym (leading_none v more)) (omega arith))
 
@@ -66,7 +65,7 @@ negative_poisoned v is_negative =
 
 -- and of every byte but 08 to 7f, exactly that
 pub poisoned_negative : (v : ℕ) → (8 ≤ v → 128 ≤ v) → leading v ≡ 0 → negative v ≡ true
-poisoned_negative v written none· =
+poisoned_negative v written None· =
     by_order v 8
     (λ small.
     by_order 0 v
@@ -88,7 +87,7 @@ published_test v j in_granule written =
     by_order 0 v
     (λ above.
     rw (leading_first v above small, ne_eqb v 0 (λ e. absurd (omega arith)), signed_below v (omega arith)))
-    (λ none·.
+    (λ None·.
     let all : v ≡ 0 = omega arith in
     rw (all, leading_all, lt-ltb j granule in_granule)))
     (λ large.
@@ -146,7 +145,7 @@ kind_outside shadow b beyond = if_false _ _ (le-ltb b (granule * length shadow) 
 
 -- ---- the range rule
 
-pub first_bad_some : (shadow : List ℕ) (a n b : ℕ) → first_bad shadow a n ≡ some b → FirstBad shadow a n b
+pub first_bad_some : (shadow : List ℕ) (a n b : ℕ) → first_bad shadow a n ≡ Some b → FirstBad shadow a n b
 unfolding first_bad
 first_bad_some shadow a n b e =
     let l : Lowest (λ j. not (addressable shadow j)) n a b = lowest_some (λ j. not (addressable shadow j)) n a b e in
@@ -157,7 +156,7 @@ first_bad_some shadow a n b e =
       first = λ j from below. not-false (addressable shadow j) (l.first j from below);
     }
 
-pub first_bad_is : (shadow : List ℕ) (a n b : ℕ) → FirstBad shadow a n b → first_bad shadow a n ≡ some b
+pub first_bad_is : (shadow : List ℕ) (a n b : ℕ) → FirstBad shadow a n b → first_bad shadow a n ≡ Some b
 unfolding first_bad
 first_bad_is shadow a n b f =
     lowest_is (λ j. not (addressable shadow j)) n a b
@@ -168,56 +167,58 @@ first_bad_is shadow a n b f =
       first = λ j from below. ap not (f.first j from below);
     })
 
-pub first_bad_none : (shadow : List ℕ) (a n : ℕ) → first_bad shadow a n ≡ none → AllGood shadow a (a + n)
+pub first_bad_none : (shadow : List ℕ) (a n : ℕ) → first_bad shadow a n ≡ None → AllGood shadow a (a + n)
 unfolding first_bad
 first_bad_none shadow a n e j from below =
     not-false (addressable shadow j) (lowest_none (λ m. not (addressable shadow m)) n a e j from below)
 
-pub first_bad_no : (shadow : List ℕ) (a n : ℕ) → AllGood shadow a (a + n) → first_bad shadow a n ≡ none
+pub first_bad_no : (shadow : List ℕ) (a n : ℕ) → AllGood shadow a (a + n) → first_bad shadow a n ≡ None
 unfolding first_bad
 first_bad_no shadow a n good =
     lowest_no (λ m. not (addressable shadow m)) n a (λ j from below. ap not (good j from below))
 
-pub verdict_none : (shadow : List ℕ) (a n : ℕ) → first_bad shadow a n ≡ none → judge shadow a n ≡ Good
+pub verdict_none : (shadow : List ℕ) (a n : ℕ) → first_bad shadow a n ≡ None → judge shadow a n ≡ good
 unfolding judge
 verdict_none shadow a n e = rw (e, judge)
 
-pub verdict_some : (shadow : List ℕ) (a n b : ℕ) → first_bad shadow a n ≡ some b → judge shadow a n
-    ≡ Bad (kind shadow b) b
+pub verdict_some : (shadow : List ℕ) (a n b : ℕ) → first_bad shadow a n ≡ Some b → judge shadow a n
+    ≡ bad (kind shadow b) b
 unfolding judge
 verdict_some shadow a n b e = rw (e, judge)
 
 -- good when every touched byte is inside the arena and among its granule's addressable bytes
-pub judge_good : (shadow : List ℕ) (a n : ℕ) → AllGood shadow a (a + n) → judge shadow a n ≡ Good
+pub judge_good : (shadow : List ℕ) (a n : ℕ) → AllGood shadow a (a + n) → judge shadow a n ≡ good
 judge_good shadow a n good = verdict_none shadow a n (first_bad_no shadow a n good)
 
 -- otherwise the first byte that is not, and its kind
-pub judge_bad : (shadow : List ℕ) (a n b : ℕ) → FirstBad shadow a n b → judge shadow a n ≡ Bad (kind shadow b) b
+pub judge_bad : (shadow : List ℕ) (a n b : ℕ) → FirstBad shadow a n b → judge shadow a n ≡ bad (kind shadow b) b
 judge_bad shadow a n b f = verdict_some shadow a n b (first_bad_is shadow a n b f)
 
-good_not_bad : (k b : ℕ) → Path Verdict Good (Bad k b) → ⊥
+good_not_bad : (k b : ℕ) → Path Verdict good (bad k b) → ⊥
 good_not_bad k b e = let z : ◌≡◌ {A = ℕ} 0 1 = cc in omega arith
 
 -- and only then
-pub good_judge : (shadow : List ℕ) (a n : ℕ) → judge shadow a n ≡ Good → AllGood shadow a (a + n)
+pub good_judge : (shadow : List ℕ) (a n : ℕ) → judge shadow a n ≡ good → AllGood shadow a (a + n)
 good_judge shadow a n e =
     by_found (first_bad shadow a n)
     (λ b f. absurd (good_not_bad (kind shadow b) b (sym e ∙ verdict_some shadow a n b f)))
     (λ f. first_bad_none shadow a n f)
 
-pub bad_judge : (shadow : List ℕ) (a n k b : ℕ) → judge shadow a n ≡ Bad k b → FirstBad shadow a n b
+pub bad_judge : (shadow : List ℕ) (a n k b : ℕ) → judge shadow a n ≡ bad k b → FirstBad shadow a n b
     × (k ≡ kind shadow b)
 bad_judge shadow a n k b e =
     by_found (first_bad shadow a n)
     (λ c f.
-    let same : Bad k b ≡ Bad (kind shadow c) c = sym e ∙ verdict_some shadow a n c f in
-    let bytes : b ≡ c = cc in
-    let kinds : k ≡ kind shadow c = cc in
+    let same : bad k b ≡ bad (kind shadow c) c = sym e ∙ verdict_some shadow a n c f in
+    let bad_bytes : ◌≡◌ {A = BadByte} (record { kind = k; first = b }) (record { kind = kind shadow c; first = c }) =
+    cc in
+    let bytes : b ≡ c = ap (λ (byte : BadByte). byte.first) bad_bytes in
+    let kinds : k ≡ kind shadow c = ap (λ (byte : BadByte). byte.kind) bad_bytes in
     (subst (FirstBad shadow a n) (sym bytes) (first_bad_some shadow a n c f), kinds ∙ ap (kind shadow) (sym bytes)))
     (λ f. absurd (good_not_bad k b (sym (verdict_none shadow a n f) ∙ e)))
 
 -- n = 0 touches nothing and is good at any address
-pub judge_nothing : (shadow : List ℕ) (a : ℕ) → judge shadow a 0 ≡ Good
+pub judge_nothing : (shadow : List ℕ) (a : ℕ) → judge shadow a 0 ≡ good
 judge_nothing shadow a = judge_good shadow a 0 (λ j from below. absurd (omega arith))
 
 -- the first bad byte is the address itself, or at most the arena's end: it has 32 bits where these have

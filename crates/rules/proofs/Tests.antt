@@ -5,9 +5,9 @@ use native.Mathlib.Decide.{dec_lt}
 use native.Mathlib.Omega.{arith}
 use mathlib.Core.Path.{◌≡◌, refl, sym, ap, ◌∙◌}
 use mathlib.Core.Bool.{Bool, true, false, not, ◌&&◌, and-eq-true_iff, true≢false}
-use mathlib.Core.Option.{Option, none, some}
 use lib.Dec.{leb}
 use borrow.Author.Tests.{leb-true, le-leb, lt-leb}
+use Rattle.std.specs.Prelude.{Option, Some, None}
 use Rattle.rules.specs.Limits.{between}
 
 -- a choice by a test whose value is known
@@ -23,9 +23,9 @@ by_test true passes fails = passes refl
 by_test false passes fails = fails refl
 
 -- by what was found, each with its equation
-pub by_found {ℓ} : {P : Type ℓ} (o : Option ℕ) → ((k : ℕ) → o ≡ some k → P) → (o ≡ none → P) → P
-by_found (some k) one nothing = one k refl
-by_found none one nothing = nothing refl
+pub by_found {ℓ} : {P : Type ℓ} (o : Option ℕ) → ((k : ℕ) → o ≡ Some k → P) → (o ≡ None → P) → P
+by_found (Some k) one nothing = one k refl
+by_found None one nothing = nothing refl
 
 -- by the order of two numbers
 pub by_order {ℓ} : {P : Type ℓ} (j k : ℕ) → (j < k → P) → (k ≤ j → P) → P

@@ -5,12 +5,13 @@ use mathlib.Core.Path.{◌≡◌, refl, ◌∙◌}
 use mathlib.Core.Logic.{◌≢◌}
 use mathlib.Core.List.{List}
 use lib.ListN.{length}
+use Rattle.std.specs.Prelude.{Ok, Err}
 use Rattle.rules.specs.declared.Session.{Session}
-use Rattle.rules.specs.declared.Frame.{Frame}
-use Rattle.rules.specs.declared.Frame.TheVariants.{Grant, Release, Read, Write, Refused}
+use Rattle.rules.specs.declared.Frame.TheVariants.{Grant, Release, Read, Write}
 use Rattle.rules.specs.Answers.{in_numbers, status}
 use Rattle.rules.specs.Grant.{Acted, grant_at, grant}
 use Rattle.rules.specs.Release.{Pool, release_row, release}
+use Rattle.rules.specs.Frames.{Asked}
 use Rattle.rules.specs.Feed.{State, act_line, finish, hold, step, run}
 use Rattle.rules.specs.Watcher.{act, watcher}
 use Rattle.rules.proofs.Grant.{SameLengths, by_grant, grant_lengths}
@@ -39,29 +40,29 @@ release_refused R Q shadow table a =
     (λ above i e refused. absurd (refused refl))
 
 -- whatever a line asks: refused, it changes neither
-pub act_refused : (session : Session) (shadow table : List ℕ) (frame : Frame)
-    → RefusedKeeps shadow table (act session shadow table frame)
+pub act_refused : (session : Session) (shadow table : List ℕ) (asked : Asked)
+    → RefusedKeeps shadow table (act session shadow table asked)
 unfolding act
-act_refused session shadow table (Grant s) = grant_refused session.redzone shadow table s
-act_refused session shadow table (Release a) = release_refused session.redzone session.quarantine shadow table a
-act_refused session shadow table (Read a n) = λ refused. (refl, refl)
-act_refused session shadow table (Write a n) = λ refused. (refl, refl)
-act_refused session shadow table (Refused answer) = λ refused. (refl, refl)
+act_refused session shadow table (Ok (Grant s)) = grant_refused session.redzone shadow table s
+act_refused session shadow table (Ok (Release a)) = release_refused session.redzone session.quarantine shadow table a
+act_refused session shadow table (Ok (Read a n)) = λ refused. (refl, refl)
+act_refused session shadow table (Ok (Write a n)) = λ refused. (refl, refl)
+act_refused session shadow table (Err refusal) = λ refused. (refl, refl)
 
 -- reads and writes are judged alike, and change neither
 pub read_as_write : (session : Session) (shadow table : List ℕ) (a n : ℕ)
-    → act session shadow table (Read a n) ≡ act session shadow table (Write a n)
+    → act session shadow table (Ok (Read a n)) ≡ act session shadow table (Ok (Write a n))
 unfolding act
 read_as_write session shadow table a n = refl
 
-pub act_lengths : (session : Session) (shadow table : List ℕ) (frame : Frame)
-    → SameLengths shadow table (act session shadow table frame)
+pub act_lengths : (session : Session) (shadow table : List ℕ) (asked : Asked)
+    → SameLengths shadow table (act session shadow table asked)
 unfolding act
-act_lengths session shadow table (Grant s) = grant_lengths session.redzone shadow table s
-act_lengths session shadow table (Release a) = release_lengths session.redzone session.quarantine shadow table a
-act_lengths session shadow table (Read a n) = (refl, refl)
-act_lengths session shadow table (Write a n) = (refl, refl)
-act_lengths session shadow table (Refused answer) = (refl, refl)
+act_lengths session shadow table (Ok (Grant s)) = grant_lengths session.redzone shadow table s
+act_lengths session shadow table (Ok (Release a)) = release_lengths session.redzone session.quarantine shadow table a
+act_lengths session shadow table (Ok (Read a n)) = (refl, refl)
+act_lengths session shadow table (Ok (Write a n)) = (refl, refl)
+act_lengths session shadow table (Err refusal) = (refl, refl)
 
 -- a refused line changes neither shadow nor table
 pub finish_refused : (st : State Pool) → status (act_line watcher st).answer ≢ 0

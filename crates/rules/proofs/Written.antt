@@ -6,9 +6,10 @@ use mathlib.Core.Path.{◌≡◌, refl, sym, ap, subst}
 use mathlib.Core.Logic.{◌⊎◌, inl, inr}
 use mathlib.Core.List.{List}
 use lib.ListN.{get_or, replicate, length-replicate, get_or-replicate}
+use Rattle.std.specs.Prelude.{Ok, Err}
 use Rattle.rules.specs.declared.Session.{Session}
-use Rattle.rules.specs.declared.Frame.{Frame}
-use Rattle.rules.specs.declared.Frame.TheVariants.{Grant, Release, Read, Write, Refused}
+use Rattle.rules.specs.Frames.{Asked}
+use Rattle.rules.specs.declared.Frame.TheVariants.{Grant, Release, Read, Write}
 use Rattle.rules.specs.Limits.{granule, redzone_byte, released_byte}
 use Rattle.rules.specs.Table.{start, size}
 use Rattle.rules.specs.Grant.{counted, granules, granted, grant_at, grant}
@@ -61,15 +62,15 @@ release_written R Q shadow table a before =
     (quarantine_row (record { shadow = shadow; table = table }) i)
     (paint_written (record { shadow = shadow; table = table }) i released_byte before (inr (inr refl))))
 
-act_written : (session : Session) (shadow table : List ℕ) (frame : Frame) → Each Written shadow
-    → Each Written (act session shadow table frame).shadow
+act_written : (session : Session) (shadow table : List ℕ) (asked : Asked) → Each Written shadow
+    → Each Written (act session shadow table asked).shadow
 unfolding act
-act_written session shadow table (Grant s) before = grant_written session.redzone shadow table s before
-act_written session shadow table (Release a) before =
+act_written session shadow table (Ok (Grant s)) before = grant_written session.redzone shadow table s before
+act_written session shadow table (Ok (Release a)) before =
     release_written session.redzone session.quarantine shadow table a before
-act_written session shadow table (Read a n) before = before
-act_written session shadow table (Write a n) before = before
-act_written session shadow table (Refused answer) before = before
+act_written session shadow table (Ok (Read a n)) before = before
+act_written session shadow table (Ok (Write a n)) before = before
+act_written session shadow table (Err refusal) before = before
 
 step_written : (st : State Pool) (b : ℕ) → Each Written st.pool.shadow
     → Each Written (step watcher st b).state.pool.shadow

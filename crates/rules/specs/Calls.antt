@@ -1,18 +1,16 @@
 -- The calls: an opening, the session check behind 24, the direct calls, and a feed into a lent room.
 use Rattle.std.specs.Prelude.{ℕ, ◌-◌, ◌*◌, ◌/◌, ◌%◌, ◌≤◌, ◌≡◌, Bool, true, false, ◌&&◌, List, length, take, replicate}
 use Rattle.std.specs.Prelude.{eqb, leb}
+use Rattle.std.specs.Prelude.{Ok, Err}
+use Rattle.rules.specs.declared.CallRefusal.TheVariants.{BadSession}
+use Rattle.rules.specs.declared.OpeningRefusal.TheVariants.{BadShadowLength, BadRedzone, BadTableLength}
 use Rattle.rules.specs.declared.Session.{Session}
 use Rattle.rules.specs.declared.Opened.{Opened}
 use Rattle.rules.specs.declared.Fed.{Fed}
-use Rattle.rules.specs.declared.Frame.{Frame}
-use Rattle.rules.specs.declared.Answer.TheVariants.{Done}
-use Rattle.rules.specs.declared.CallAnswer.{CallAnswer}
-use Rattle.rules.specs.declared.CallAnswer.TheVariants.{Answered, BadSession}
-use Rattle.rules.specs.declared.OpeningAnswer.{OpeningAnswer}
-use Rattle.rules.specs.declared.OpeningAnswer.TheVariants.{Open, BadShadowLength, BadRedzone, BadTableLength}
 use Rattle.rules.specs.Limits.{between, least_granules, most_granules, least_rows, most_rows, row_numbers}
 use Rattle.rules.specs.Limits.{least_redzone, most_redzone, frame_digits, too_long, redzone_byte}
-use Rattle.rules.specs.Answers.{opening_status, call_status}
+use Rattle.rules.specs.Answers.{CallAnswer, OpeningAnswer, opening_status, call_status}
+use Rattle.rules.specs.Frames.{Asked}
 use Rattle.rules.specs.Lowest.{all_equal, AllEqual}
 use Rattle.rules.specs.Put.{put}
 use Rattle.rules.specs.Grant.{Acted, grant}
@@ -50,17 +48,17 @@ not_opened answer shadow table = record {
 unfoldable pub open_with : List ℕ → List ℕ → ℕ → ℕ → OpenedWith
 open_with shadow table R Q =
     elim (between least_granules most_granules (length shadow)) [
-      | false ↦ not_opened BadShadowLength shadow table
+      | false ↦ not_opened (Err BadShadowLength) shadow table
       | true ↦
           elim (between least_redzone most_redzone R) [
-            | false ↦ not_opened BadRedzone shadow table
+            | false ↦ not_opened (Err BadRedzone) shadow table
             | true ↦
                 elim (table_length (length table)) [
-                  | false ↦ not_opened BadTableLength shadow table
+                  | false ↦ not_opened (Err BadTableLength) shadow table
                   | true ↦ record {
                     given = record {
                       session = fresh (length shadow) (length table / row_numbers) R Q;
-                      status = opening_status Open;
+                      status = opening_status (Ok tt);
                     };
                     shadow = replicate (length shadow) redzone_byte;
                     table = replicate (length table) 0;
@@ -90,8 +88,8 @@ fits_session engine session pool = within_limits session && engine.lent session.
 
 -- an engine whose lines keep the lengths of what it is lent
 abbrev pub KeepsLengths : {P : Type 0} → Engine P → Type 0
-KeepsLengths {P} engine = (S n : ℕ) (session : Session) (pool : P) (frame : Frame) → engine.lent S n pool ≡ true
-    → engine.lent S n (engine.act session pool frame).pool ≡ true
+KeepsLengths {P} engine = (S n : ℕ) (session : Session) (pool : P) (asked : Asked) → engine.lent S n pool ≡ true
+    → engine.lent S n (engine.act session pool asked).pool ≡ true
 
 -- the watcher's, of a lent shadow and table
 abbrev pub fits_lent : Session → List ℕ → List ℕ → Bool
@@ -129,30 +127,30 @@ called answer shadow table = record { answer = answer; shadow = shadow; table = 
 
 -- as a line does
 abbrev pub as_line : Acted → Called
-as_line acted = called (Answered acted.answer) acted.shadow acted.table
+as_line acted = called (Ok acted.answer) acted.shadow acted.table
 
 unfoldable pub grant_call : Session → List ℕ → List ℕ → ℕ → Called
 grant_call session shadow table s =
     elim (fits_lent session shadow table) [
       | true ↦ as_line (grant session.redzone shadow table s)
-      | false ↦ called BadSession shadow table
+      | false ↦ called (Err BadSession) shadow table
     ]
 
 unfoldable pub release_call : Session → List ℕ → List ℕ → ℕ → Called
 release_call session shadow table a =
     elim (fits_lent session shadow table) [
       | true ↦ as_line (release session.redzone session.quarantine shadow table a)
-      | false ↦ called BadSession shadow table
+      | false ↦ called (Err BadSession) shadow table
     ]
 
 unfoldable pub access_call : Session → List ℕ → List ℕ → ℕ → ℕ → CallAnswer
 access_call session shadow table a n =
-    elim (fits_lent session shadow table) [ true ↦ Answered (access shadow a n) | false ↦ BadSession ]
+    elim (fits_lent session shadow table) [ true ↦ Ok (access shadow a n) | false ↦ Err BadSession ]
 
 -- the length of the unfinished line, 0 to 19
 unfoldable pub unfinished_call : Session → CallAnswer
 unfinished_call session =
-    elim (within_limits session) [ true ↦ Answered (Done session.unfinished) | false ↦ BadSession ]
+    elim (within_limits session) [ true ↦ Ok (Ok session.unfinished) | false ↦ Err BadSession ]
 
 -- ---- feed
 
@@ -167,7 +165,7 @@ abbrev pub fed_with : {P : Type 0} → Ran P → ℕ → List ℕ → FedWith P
 fed_with ran n room = record {
   given = record {
     session = ran.state.session;
-    status = call_status (Answered (Done 0));
+    status = call_status (Ok (Ok 0));
     taken = n;
     wrote = length ran.report;
   };
@@ -183,7 +181,7 @@ feed_by engine session pool piece room =
           let n : ℕ = taken piece (length room) in
           fed_with (run engine (record { session = session; pool = pool }) (take n piece)) n room
       | false ↦ record {
-        given = record { session = session; status = call_status BadSession; taken = 0; wrote = 0 };
+        given = record { session = session; status = call_status (Err BadSession); taken = 0; wrote = 0 };
         pool = pool;
         room = room;
       }

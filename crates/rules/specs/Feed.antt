@@ -3,10 +3,9 @@
 use Rattle.std.specs.Prelude.{ℕ, suc, ◌+◌, ◌-◌, ◌≡◌, refl, Bool, true, false, List, [], ◌∷◌, ◌++◌, set, replicate, eqb}
 use Rattle.std.specs.Prelude.{ltb}
 use Rattle.rules.specs.declared.Session.{Session}
-use Rattle.rules.specs.declared.Answer.{Answer}
-use Rattle.rules.specs.declared.Frame.{Frame}
+use Rattle.rules.specs.Answers.{Answer}
 use Rattle.rules.specs.Limits.{frame_digits, too_long, line_feed, answer_bytes}
-use Rattle.rules.specs.Frames.{frame_of_line, answer_line}
+use Rattle.rules.specs.Frames.{Asked, frame_of_line, answer_line}
 
 -- ---- the unfinished line
 
@@ -47,7 +46,7 @@ pub record Outcome (P : Type 0) : Type 0 where
 -- granules and rows, and what a frame does to it
 pub record Engine (P : Type 0) : Type 0 where
   pub lent : ℕ → ℕ → P → Bool
-  pub act : Session → P → Frame → Outcome P
+  pub act : Session → P → Asked → Outcome P
 
 -- a state: the session with its unfinished line, and the pool
 pub record State (P : Type 0) : Type 0 where

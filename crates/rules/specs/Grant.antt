@@ -1,9 +1,9 @@
 -- Grant of s bytes: its place, what is painted, its row.
 use Rattle.std.specs.Prelude.{ℕ, zero, suc, ◌+◌, ◌-◌, ◌*◌, ◌/◌, ◌%◌, ◌≤◌, ◌<◌, max, Bool, List, [], ◌∷◌, ◌++◌, length}
 use Rattle.std.specs.Prelude.{replicate}
-use Rattle.std.proofs.Math.Option.{Option, none, some}
-use Rattle.rules.specs.declared.Answer.{Answer}
-use Rattle.rules.specs.declared.Answer.TheVariants.{Done, NoRow, NoPlace}
+use Rattle.std.specs.Prelude.{Option, Some, None, Ok, Err}
+use Rattle.rules.specs.declared.Refusal.TheVariants.{NoRow, NoPlace}
+use Rattle.rules.specs.Answers.{Answer}
 use Rattle.rules.specs.declared.Row.{Row}
 use Rattle.rules.specs.Limits.{granule, redzone_byte, live}
 use Rattle.rules.specs.Lowest.{lowest, all_equal, AllEqual}
@@ -74,7 +74,7 @@ granted_row p s = record { start = p; size = s; state = live; turn = 0 }
 -- a grant into row i at granule p
 unfoldable pub grant_at : List ℕ → List ℕ → ℕ → ℕ → ℕ → Acted
 grant_at shadow table s i p = record {
-  answer = Done (granule * p);
+  answer = Ok (granule * p);
   shadow = put shadow p (granted s);
   table = put_row table i (granted_row p s);
 }
@@ -83,10 +83,10 @@ grant_at shadow table s i p = record {
 unfoldable pub grant : ℕ → List ℕ → List ℕ → ℕ → Acted
 grant R shadow table s =
     elim (empty_row table) [
-      | none ↦ unchanged NoRow shadow table
-      | some i ↦
+      | None ↦ unchanged (Err NoRow) shadow table
+      | Some i ↦
           elim (place shadow R (granules (counted s))) [
-            | none ↦ unchanged NoPlace shadow table
-            | some p ↦ grant_at shadow table (counted s) i p
+            | None ↦ unchanged (Err NoPlace) shadow table
+            | Some p ↦ grant_at shadow table (counted s) i p
           ]
     ]

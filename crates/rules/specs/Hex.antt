@@ -2,7 +2,7 @@
 use Rattle.std.specs.Prelude.{ℕ, zero, suc, ◌+◌, ◌-◌, ◌*◌, ◌/◌, ◌%◌, ◌^◌, ◌≡◌, true, false, List, [], ◌∷◌, ◌++◌, take}
 use Rattle.std.specs.Prelude.{drop, ltb}
 use Rattle.std.proofs.Math.Path.{refl}
-use Rattle.std.proofs.Math.Option.{Option, none, some}
+use Rattle.std.specs.Prelude.{Option, Some, None}
 use Rattle.rules.specs.Field.{Field, width_of, start_of}
 use Rattle.rules.specs.Limits.{between, no_digit}
 
@@ -12,32 +12,32 @@ use Rattle.rules.specs.Limits.{between, no_digit}
 unfoldable pub hex_digit : ℕ → Option ℕ
 hex_digit b =
     elim (between 0x30 0x39 b) [
-      | true ↦ some (b - 0x30)
+      | true ↦ Some (b - 0x30)
       | false ↦
           elim (between 0x61 0x66 b) [
-            | true ↦ some (b - 0x61 + 10)
-            | false ↦ elim (between 0x41 0x46 b) [ true ↦ some (b - 0x41 + 10) | false ↦ none ]
+            | true ↦ Some (b - 0x61 + 10)
+            | false ↦ elim (between 0x41 0x46 b) [ true ↦ Some (b - 0x41 + 10) | false ↦ None ]
           ]
     ]
 
 -- the same as one number, with a mark for none
 unfoldable pub digit_value : ℕ → ℕ
-digit_value b = elim (hex_digit b) [ some d ↦ d | none ↦ no_digit ]
+digit_value b = elim (hex_digit b) [ Some d ↦ d | None ↦ no_digit ]
 
 -- digits read on from a number that is already read, the highest digit first
 unfoldable pub number_on : ℕ → List ℕ → Option ℕ
-number_on n [] = some n
-number_on n (b ∷ bs) = elim (hex_digit b) [ some d ↦ number_on (16 * n + d) bs | none ↦ none ]
+number_on n [] = Some n
+number_on n (b ∷ bs) = elim (hex_digit b) [ Some d ↦ number_on (16 * n + d) bs | None ↦ None ]
 
-pub number_nil : (n : ℕ) → number_on n [] ≡ some n
+pub number_nil : (n : ℕ) → number_on n [] ≡ Some n
 unfolding number_on
 number_nil n = refl
 
-pub number_cons : (n b d : ℕ) (bs : List ℕ) → hex_digit b ≡ some d → number_on n (b ∷ bs) ≡ number_on (16 * n + d) bs
+pub number_cons : (n b d : ℕ) (bs : List ℕ) → hex_digit b ≡ Some d → number_on n (b ∷ bs) ≡ number_on (16 * n + d) bs
 unfolding number_on
 number_cons n b d bs e = rw (e, number_on)
 
-pub number_stop : (n b : ℕ) (bs : List ℕ) → hex_digit b ≡ none → number_on n (b ∷ bs) ≡ none
+pub number_stop : (n b : ℕ) (bs : List ℕ) → hex_digit b ≡ None → number_on n (b ∷ bs) ≡ None
 unfolding number_on
 number_stop n b bs e = rw (e, number_on)
 

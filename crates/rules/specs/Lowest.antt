@@ -1,24 +1,17 @@
 -- "The lowest that ..": the lowest number that passes a test, and the sum of numbers. Every search, every walk over a
 -- window and every count of the rules is one of these, and each runs upward, as the loops do. Assumes nothing.
 use Rattle.std.specs.Prelude.{ℕ, zero, suc, ◌+◌, ◌≤◌, ◌<◌, ◌≡◌, refl, Bool, true, false, not, List, length, get_or, eqb}
-use Rattle.std.proofs.Math.Option.{Option, none, some}
-use Rattle.rules.specs.declared.Found.{Found}
-use Rattle.rules.specs.declared.Found.TheVariants.{One, Nothing}
+use Rattle.std.specs.Prelude.{Option, Some, None}
 
 -- the lowest of the n numbers i, i + 1, .. that passes the test
 unfoldable pub lowest : (ℕ → Bool) → ℕ → ℕ → Option ℕ
-lowest test zero i = none
-lowest test (suc n) i = elim (test i) [ true ↦ some i | false ↦ lowest test n (suc i) ]
+lowest test zero i = None
+lowest test (suc n) i = elim (test i) [ true ↦ Some i | false ↦ lowest test n (suc i) ]
 
 -- whether one was found
-abbrev pub found {ℓ} : {A : Type ℓ} → Option A → Bool
-found none = false
-found (some a) = true
-
--- what was found, as the code's searches answer
-abbrev pub answered : Option ℕ → Found
-answered none = Nothing
-answered (some k) = One k
+abbrev pub found : {A : Type 0} → Option A → Bool
+found None = false
+found (Some a) = true
 
 -- the n numbers of a list from place i on all equal v: given up at the first that does not
 unfoldable pub all_equal : List ℕ → ℕ → ℕ → ℕ → Bool
@@ -39,11 +32,11 @@ total f (suc n) = total f n + f n
 
 -- ---- the equations
 
-pub lowest_zero : (test : ℕ → Bool) (i : ℕ) → lowest test zero i ≡ none
+pub lowest_zero : (test : ℕ → Bool) (i : ℕ) → lowest test zero i ≡ None
 unfolding lowest
 lowest_zero test i = refl
 
-pub lowest_here : (test : ℕ → Bool) (n i : ℕ) → test i ≡ true → lowest test (suc n) i ≡ some i
+pub lowest_here : (test : ℕ → Bool) (n i : ℕ) → test i ≡ true → lowest test (suc n) i ≡ Some i
 unfolding lowest
 lowest_here test n i passes = rw (passes, lowest)
 

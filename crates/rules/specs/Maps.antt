@@ -1,7 +1,8 @@
 -- The two published address maps.
 use Rattle.std.specs.Prelude.{ℕ, ◌+◌, ◌/◌, ◌<◌, ◌≡◌, true, false, leb}
-use Rattle.rules.specs.declared.MapAnswer.{MapAnswer}
-use Rattle.rules.specs.declared.MapAnswer.TheVariants.{HasShadow, BeyondMap, InGap}
+use Rattle.std.specs.Prelude.{Ok, Err}
+use Rattle.rules.specs.declared.MapRefusal.TheVariants.{BeyondMap, InGap}
+use Rattle.rules.specs.Answers.{MapAnswer}
 use Rattle.rules.specs.declared.Region.{Region}
 use Rattle.rules.specs.declared.Region.TheVariants.{Nowhere, LowMem, LowShadow, ShadowGap, HighShadow, HighMem}
 use Rattle.rules.specs.declared.Map.{Map}
@@ -78,12 +79,12 @@ region_number HighMem = 5
 
 -- done, 31 where the address is in no region, 32 where it is in the gap
 unfoldable pub map_answer : Region → MapAnswer
-map_answer Nowhere = BeyondMap
-map_answer LowMem = HasShadow
-map_answer LowShadow = HasShadow
-map_answer ShadowGap = InGap
-map_answer HighShadow = HasShadow
-map_answer HighMem = HasShadow
+map_answer Nowhere = Err BeyondMap
+map_answer LowMem = Ok tt
+map_answer LowShadow = Ok tt
+map_answer ShadowGap = Err InGap
+map_answer HighShadow = Ok tt
+map_answer HighMem = Ok tt
 
 -- 31 and 32 give shadow address 0
 unfoldable pub map_shadow : Region → ℕ → ℕ

@@ -1,7 +1,7 @@
 -- Release of address a, the quarantine, and evictions from it.
 use Rattle.std.specs.Prelude.{ℕ, zero, suc, ◌+◌, ◌*◌, ◌≡◌, refl, Bool, true, false, ◌&&◌, List, eqb, ltb}
-use Rattle.std.proofs.Math.Option.{Option, none, some}
-use Rattle.rules.specs.declared.Answer.TheVariants.{Done, NotHeld, Released}
+use Rattle.std.specs.Prelude.{Option, Some, None, Ok, Err}
+use Rattle.rules.specs.declared.Refusal.TheVariants.{NotHeld, Released}
 use Rattle.rules.specs.Limits.{granule, state_column, turn_column, redzone_byte, released_byte, live, quarantined}
 use Rattle.rules.specs.Lowest.{lowest, total}
 use Rattle.rules.specs.Put.{fill}
@@ -35,21 +35,21 @@ weights R table = total (if_quarantined table (λ i. weight R (size table i))) (
 
 -- of two quarantined rows, the later n leaves first only where its turn is lower
 unfoldable pub older : List ℕ → Option ℕ → ℕ → ℕ
-older table none n = n
-older table (some i) n = elim (ltb (turn table n) (turn table i)) [ true ↦ n | false ↦ i ]
+older table None n = n
+older table (Some i) n = elim (ltb (turn table n) (turn table i)) [ true ↦ n | false ↦ i ]
 
 -- of the first n rows, the quarantined one with the lowest turn, on equal turns the lower row
 unfoldable pub oldest : List ℕ → ℕ → Option ℕ
-oldest table zero = none
+oldest table zero = None
 oldest table (suc n) =
-    elim (is_quarantined table n) [ true ↦ some (older table (oldest table n) n) | false ↦ oldest table n ]
+    elim (is_quarantined table n) [ true ↦ Some (older table (oldest table n) n) | false ↦ oldest table n ]
 
-pub oldest_zero : (table : List ℕ) → oldest table zero ≡ none
+pub oldest_zero : (table : List ℕ) → oldest table zero ≡ None
 unfolding oldest
 oldest_zero table = refl
 
 pub oldest_here : (table : List ℕ) (n : ℕ) → is_quarantined table n ≡ true → oldest table (suc n)
-    ≡ some (older table (oldest table n) n)
+    ≡ Some (older table (oldest table n) n)
 unfolding oldest
 oldest_here table n e = rw (e, oldest)
 
@@ -75,7 +75,7 @@ evict_row pool i = record {
 
 -- the one with the lowest turn is evicted, where one is quarantined
 unfoldable pub evict_oldest : Pool → Pool
-evict_oldest pool = elim (oldest pool.table (rows pool.table)) [ none ↦ pool | some i ↦ evict_row pool i ]
+evict_oldest pool = elim (oldest pool.table (rows pool.table)) [ None ↦ pool | Some i ↦ evict_row pool i ]
 
 -- the pool once all evictions are done, and their count
 pub record Settled : Type 0 where
@@ -113,21 +113,21 @@ quarantine_row pool i = record {
 unfoldable pub release_row : ℕ → ℕ → Pool → ℕ → Acted
 release_row R Q pool i =
     let settled : Settled = settle R Q (quarantine_row pool i) in
-    record { answer = Done settled.evicted; shadow = settled.pool.shadow; table = settled.pool.table }
+    record { answer = Ok settled.evicted; shadow = settled.pool.shadow; table = settled.pool.table }
 
 -- address 0 is done and changes nothing; 07 where no held row starts at a, 08 where no live row does but a quarantined
 -- one
 unfoldable pub release : ℕ → ℕ → List ℕ → List ℕ → ℕ → Acted
 release R Q shadow table a =
     elim (eqb a 0) [
-      | true ↦ unchanged (Done 0) shadow table
+      | true ↦ unchanged (Ok 0) shadow table
       | false ↦
           elim (row_at live table a) [
-            | some i ↦ release_row R Q (record { shadow = shadow; table = table }) i
-            | none ↦
+            | Some i ↦ release_row R Q (record { shadow = shadow; table = table }) i
+            | None ↦
                 elim (row_at quarantined table a) [
-                  | some i ↦ unchanged Released shadow table
-                  | none ↦ unchanged NotHeld shadow table
+                  | Some i ↦ unchanged (Err Released) shadow table
+                  | None ↦ unchanged (Err NotHeld) shadow table
                 ]
           ]
     ]

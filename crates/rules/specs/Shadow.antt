@@ -1,12 +1,11 @@
 -- The shadow byte, and the range rule. A shadow is any list of numbers, one a granule.
 use Rattle.std.specs.Prelude.{ℕ, ◌+◌, ◌*◌, ◌/◌, ◌%◌, ◌≤◌, ◌<◌, ◌≡◌, Bool, true, false, not, ◌&&◌, List, length, get_or}
 use Rattle.std.specs.Prelude.{eqb, ltb, ℤ, pos}
-use Rattle.std.proofs.Math.Option.{Option, none, some}
 use Rattle.std.specs.Int.Signed.{lt_z}
 use Rattle.std.specs.Int.{w8}
 use Rattle.std.proofs.Common.{to_z}
-use Rattle.rules.specs.declared.Verdict.{Verdict}
-use Rattle.rules.specs.declared.Verdict.TheVariants.{Good, Bad}
+use Rattle.std.specs.Prelude.{Option, Some, None, Result, Ok, Err}
+use Rattle.rules.specs.declared.BadByte.{BadByte}
 use Rattle.rules.specs.Limits.{granule, outside}
 use Rattle.rules.specs.Lowest.{lowest}
 
@@ -41,9 +40,19 @@ kind shadow a = elim (inside shadow a) [ true ↦ shadow_of shadow a | false ↦
 unfoldable pub first_bad : List ℕ → ℕ → ℕ → Option ℕ
 first_bad shadow a n = lowest (λ b. not (addressable shadow b)) n a
 
+-- what a range is found to be: good, or not by its first bad byte
+abbrev pub Verdict : Type 0
+Verdict = Result Unit BadByte
+
+abbrev pub good : Verdict
+good = Ok tt
+
+abbrev pub bad : ℕ → ℕ → Verdict
+bad kind first = Err (record { kind = kind; first = first })
+
 -- the range rule, for reads and writes alike
 unfoldable pub judge : List ℕ → ℕ → ℕ → Verdict
-judge shadow a n = elim (first_bad shadow a n) [ none ↦ Good | some b ↦ Bad (kind shadow b) b ]
+judge shadow a n = elim (first_bad shadow a n) [ None ↦ good | Some b ↦ bad (kind shadow b) b ]
 
 -- ---- what the range rule says of bytes
 

@@ -37,31 +37,31 @@ pub struct Row {
     pub turn: u32,
 }
 
-// Its numbers, in the columns' order.
-pub fn numbers(row: Row) -> [u32; ROW_NUMBERS]
-    ensures { result ≡ numbers row }
-{
-    [row.start, row.size, row.state, row.turn]
-}
+impl Row {
+    // Its numbers, in the columns' order.
+    pub fn numbers(self) -> [u32; ROW_NUMBERS]
+        ensures { result ≡ numbers self }
+    {
+        [self.start, self.size, self.state, self.turn]
+    }
 
-// The row of an empty table, and of a block that was evicted.
-pub fn zero_row() -> Row
-    ensures { result ≡ zero_row }
-{
-    Row {
-        start: 0,
-        size: 0,
-        state: EMPTY,
-        turn: 0,
+    // The row of an empty table, and of a block that was evicted.
+    pub fn zero() -> Row
+        ensures { result ≡ zero_row }
+    {
+        Row {
+            start: 0,
+            size: 0,
+            state: EMPTY,
+            turn: 0,
+        }
     }
 }
 
-// A line's answer: the rows 00 to 09 of the paper's table. Each area has answers of its own, so that none can give
-// another's.
-#[derive(Clone, Copy)]
-pub enum Answer {
-    // 00
-    Done { value: u32 },
+// Why a line is refused, or what an access that is not good is answered: the rows 01 to 09 of the paper's table. Each
+// area has refusals of its own, so that none can give another's.
+#[derive(Clone, Copy, PartialEq, Eq)]
+pub enum Refusal {
     // 01: the line is not 18 hex digits
     BadLine,
     // 02: the kind is not 01 to 04
@@ -80,35 +80,41 @@ pub enum Answer {
     NotGood { kind: u8, first: u32 },
 }
 
-// What a call answers that is handed a session.
-#[derive(Clone, Copy)]
-pub enum CallAnswer {
-    // as a line does
-    Answered(Answer),
+// A line's answer: 00 with a value, or a refusal.
+pub type Answer = Result<u32, Refusal>;
+
+// Why a call is refused that is handed a session.
+#[derive(Clone, Copy, PartialEq, Eq)]
+pub enum CallRefusal {
     // 24: the session is closed, or does not fit what is lent or its limits
     BadSession,
 }
 
-// An opening's answer.
-#[derive(Clone, Copy)]
-pub enum OpeningAnswer {
-    // 00
-    Open,
+// What such a call answers: as a line does, where it is not refused.
+pub type CallAnswer = Result<Answer, CallRefusal>;
+
+// Why an opening is refused.
+#[derive(Clone, Copy, PartialEq, Eq)]
+pub enum OpeningRefusal {
     // 21, 22, 23: such a shadow length, redzone or table length
     BadShadowLength,
     BadRedzone,
     BadTableLength,
 }
 
-// A map's answer.
-#[derive(Clone, Copy)]
-pub enum MapAnswer {
-    // 00
-    HasShadow,
+// An opening's answer: 00, or why it is refused.
+pub type OpeningAnswer = Result<(), OpeningRefusal>;
+
+// Why an address has no shadow.
+#[derive(Clone, Copy, PartialEq, Eq)]
+pub enum MapRefusal {
     // 31, 32: an address beyond the map's last, or in its gap
     BeyondMap,
     InGap,
 }
+
+// A map's answer: 00, or why there is no shadow address.
+pub type MapAnswer = Result<(), MapRefusal>;
 
 // The answer of a line or of a call, in the paper's numbers.
 #[repr(C)]
@@ -119,20 +125,15 @@ pub struct Reply {
     pub value: u32,
 }
 
-// What a search finds: the one number that it looks for, or nothing where there is none.
-#[derive(Clone, Copy)]
-pub enum Found {
-    One(usize),
-    Nothing,
+// The first bad byte of a range, and its kind. The byte is a whole number that does not wrap, so it has 64 bits.
+#[derive(Clone, Copy, PartialEq, Eq)]
+pub struct BadByte {
+    pub kind: u8,
+    pub first: u64,
 }
 
-// What a range is found to be: good, or its first bad byte and the kind of that byte. The byte is
-// a whole number that does not wrap, so it has 64 bits.
-#[derive(Clone, Copy)]
-pub enum Verdict {
-    Good,
-    Bad { kind: u8, first: u64 },
-}
+// What a range is found to be: good, or not by its first bad byte.
+pub type Verdict = Result<(), BadByte>;
 
 // A line's fields as they are written, before anything is made of them.
 #[derive(Clone, Copy)]
@@ -142,22 +143,17 @@ pub struct Fields {
     pub b: u32,
 }
 
-// A line as text: its fields, or that it is not 18 hex digits.
-#[derive(Clone, Copy)]
-pub enum Line {
-    Of(Fields),
-    NotDigits,
-}
-
-// What a line asks, or the answer that refuses it.
-#[derive(Clone, Copy)]
+// What a line asks that is not refused.
+#[derive(Clone, Copy, PartialEq, Eq)]
 pub enum Frame {
     Grant { size: u32 },
     Release { address: u32 },
     Read { address: u32, length: u32 },
     Write { address: u32, length: u32 },
-    Refused(Answer),
 }
+
+// What a line asks, or why it is refused.
+pub type Asked = Result<Frame, Refusal>;
 
 // What an opening hands back: the status 00, 21, 22 or 23, and a session, closed where refused.
 #[repr(C)]
