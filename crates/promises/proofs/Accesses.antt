@@ -6,11 +6,11 @@ use native.Mathlib.Omega.{arith}
 use mathlib.Core.Path.{◌≡◌, refl, sym, ap, subst, ◌∙◌}
 use mathlib.Core.Logic.{◌≢◌, ◌⊎◌, inl, inr, ⊎_elim}
 use mathlib.Core.Bool.{true, false, true≢false}
-use mathlib.Core.Option.{some}
 use mathlib.Core.List.Memᴰ
 use mathlib.Core.List.{List, [], ◌∷◌, ◌++◌, append_assoc}
 use lib.ListN.{length, get_or}
-use Rattle.rules.specs.declared.Answer.TheVariants.{Done, NotGood}
+use Rattle.std.specs.Prelude.{Some, Ok, Err}
+use Rattle.rules.specs.declared.Refusal.TheVariants.{NotGood}
 use Rattle.rules.specs.declared.Frame.TheVariants.{Read, Write}
 use Rattle.rules.specs.Limits.{granule, live, quarantined}
 use Rattle.rules.specs.Table.{rows, start, size, state}
@@ -50,8 +50,8 @@ access_answer : {P : State Pool → History → Type 0} {h : History} {x : Excha
     → Touches x a n
     → (act_line watcher m.st).answer ≡ access m.st.pool.shadow a n
 unfolding act
-access_answer m a n (inl e) = ap (λ acted. acted.answer) (acted_on m (Read a n) e)
-access_answer m a n (inr e) = ap (λ acted. acted.answer) (acted_on m (Write a n) e)
+access_answer m a n (inl e) = ap (λ acted. acted.answer) (acted_on m (Ok (Read a n)) e)
+access_answer m a n (inr e) = ap (λ acted. acted.answer) (acted_on m (Ok (Write a n)) e)
 
 -- ---- the kind of a bad byte
 
@@ -113,13 +113,13 @@ module _ {S R Q : ℕ} {shadow table : List ℕ} {h : History} (stands : Stands 
 
 -- reported with its first stray byte, or passed with none
 record Bad (S : ℕ) (blocks quarantine : List Block) (x : Exchange) (a n : ℕ) : Type 0 where
-  pub status_is : status_of x ≡ some 9
+  pub status_is : status_of x ≡ Some 9
   pub first : First blocks a n x
-  pub kind : (k : ℕ) × (kind_of x ≡ some k) × KindBy S blocks quarantine first.byte k
+  pub kind : (k : ℕ) × (kind_of x ≡ Some k) × KindBy S blocks quarantine first.byte k
 
 record Passed (blocks : List Block) (x : Exchange) (a n : ℕ) : Type 0 where
-  pub status_is : status_of x ≡ some 0
-  pub value_is : value_of x ≡ some 0
+  pub status_is : status_of x ≡ Some 0
+  pub value_is : value_of x ≡ Some 0
   pub none_stray : (b : ℕ) → Stray blocks a n b → ⊥
 
 -- of a replay's line
@@ -139,30 +139,30 @@ judged r before x line a n touches =
     by_found (first_bad shadow a n)
     (λ b e.
     let f : FirstBad shadow a n b = first_bad_some shadow a n b e in
-    let answer : (act_line watcher m.st).answer ≡ NotGood (kind shadow b) b =
+    let answer : (act_line watcher m.st).answer ≡ Err (NotGood (kind shadow b) b) =
     access_answer m a n touches ∙ access_bad shadow a n b e in
     let kind_is : (in_numbers (act_line watcher m.st).answer).kind ≡ kind shadow b =
     ap (λ c. (in_numbers c).kind) answer in
     let stray : lies_in blocks b ≡ false = sym (same b) ∙ f.bad in
     inl
     (record {
-      status_is = m.status_is ∙ ap (λ c. some (status c)) answer;
+      status_is = m.status_is ∙ ap (λ c. Some (status c)) answer;
       first = record {
         byte = b;
-        value = m.value_is ∙ ap (λ c. some (in_numbers c).value) answer;
+        value = m.value_is ∙ ap (λ c. Some (in_numbers c).value) answer;
         stray = record { from = f.from; below = f.below; nowhere = stray };
         least =
             λ c s. by_order c b (λ less. absurd (true≢false (sym (f.first c s.from less) ∙ same c ∙ s.nowhere)))
             (λ more. more);
       };
-      kind = (kind shadow b, m.kind_is (omega (arith, kind_fits stands b)) ∙ ap some kind_is, kind_by stands b stray);
+      kind = (kind shadow b, m.kind_is (omega (arith, kind_fits stands b)) ∙ ap Some kind_is, kind_by stands b stray);
     }))
     (λ e.
-    let answer : (act_line watcher m.st).answer ≡ Done 0 = access_answer m a n touches ∙ access_good shadow a n e in
+    let answer : (act_line watcher m.st).answer ≡ Ok 0 = access_answer m a n touches ∙ access_good shadow a n e in
     inr
     (record {
-      status_is = m.status_is ∙ ap (λ c. some (status c)) answer;
-      value_is = m.value_is ∙ ap (λ c. some (in_numbers c).value) answer;
+      status_is = m.status_is ∙ ap (λ c. Some (status c)) answer;
+      value_is = m.value_is ∙ ap (λ c. Some (in_numbers c).value) answer;
       none_stray = λ b s. true≢false (sym (first_bad_none shadow a n e b s.from s.below) ∙ same b ∙ s.nowhere);
     }))
 
@@ -175,14 +175,14 @@ reported r before x line a n touches =
       reported = (λ e. (bad.first.byte, bad.first.stray), λ s. bad.status_is);
       passed = (
         λ e. absurd (omega (arith, one_status bad.status_is e)),
-        λ none·. absurd (none· (bad.first.byte, bad.first.stray)),
+        λ None·. absurd (None· (bad.first.byte, bad.first.stray)),
       );
       passed_value = λ e. absurd (omega (arith, one_status bad.status_is e));
     })
     (λ (good : Passed (live_at r before) x a n). record {
       reported =
           (λ e. absurd (omega (arith, one_status good.status_is e)), λ s. absurd (good.none_stray s.0 s.1));
-      passed = (λ e. λ s. good.none_stray s.0 s.1, λ none·. good.status_is);
+      passed = (λ e. λ s. good.none_stray s.0 s.1, λ None·. good.status_is);
       passed_value = λ e. good.value_is;
     })
     (judged r before x line a n touches)
@@ -362,7 +362,7 @@ module _ (r : Replay) (before : List Exchange) (gone : Exchange) (line : Line r 
       let h : History = history r before in
       let m : Moment (HoldsOf r) h gone = line_moment r before gone line in
       let value : ℕ = (in_numbers (act_line watcher m.st).answer).value in
-      let by : ((seeks gone).block ≡ some y.address) × (status_of gone ≡ some 0) =
+      let by : ((seeks gone).block ≡ Some y.address) × (status_of gone ≡ Some 0) =
       released_by gone y.address is_released in
       let done : events gone ≡ did (seeks gone) value = events_done gone value by.1 m.value_is in
       by_found (seeks gone).room

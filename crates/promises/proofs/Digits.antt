@@ -4,7 +4,7 @@ use native.Mathlib.Omega.{arith}
 use mathlib.Core.Path.{sym, subst}
 use mathlib.Core.List.{List}
 use lib.ListN.{length}
-use Rattle.rules.specs.declared.Answer.{Answer}
+use Rattle.rules.specs.Answers.{Answer}
 use Rattle.rules.specs.Limits.{live, row_numbers, most_rows, most_granules}
 use Rattle.rules.specs.Table.{rows}
 use Rattle.rules.specs.Shadow.{first_bad}

@@ -7,16 +7,16 @@ use mathlib.Core.Path.{◌≡◌, refl, sym, ap, ap₂, subst, ◌∙◌}
 use mathlib.Core.Logic.{◌≢◌}
 use mathlib.Core.List.{List, [], ◌∷◌, ◌++◌, append_assoc, append-nil}
 use lib.ListN.{length}
+use Rattle.std.specs.Prelude.{Err, Ok}
 use Rattle.rules.specs.declared.Session.{Session}
 use Rattle.rules.specs.declared.Fields.{Fields}
-use Rattle.rules.specs.declared.Frame.{Frame}
-use Rattle.rules.specs.declared.Frame.TheVariants.{Grant, Release, Read, Write, Refused}
+use Rattle.rules.specs.declared.Frame.TheVariants.{Grant, Release, Read, Write}
 use Rattle.rules.specs.Field.{Field}
 use Rattle.rules.specs.Limits.{frame_fields, frame_digits, line_feed, kind_grant, kind_release, kind_read, kind_write}
 use Rattle.rules.specs.Grant.{grant}
 use Rattle.rules.specs.Release.{release, Pool}
 use Rattle.rules.specs.Hex.{digit, digits, digits_zero, digits_suc, written, written_nil, written_cons}
-use Rattle.rules.specs.Frames.{fields, frame, with_zero, frame_of_line, answer_line, line_of}
+use Rattle.rules.specs.Frames.{Asked, fields, frame, with_zero, frame_of_line, answer_line, line_of}
 use Rattle.rules.specs.Feed.{State, no_bytes, emptied, act_line, finish, hold, after, run, run_nil}
 use Rattle.rules.specs.Watcher.{act, watcher, outcome}
 use Rattle.rules.specs.Calls.{as_line}
@@ -76,15 +76,15 @@ spells_run (b ∷ line) bytes st none· spells =
 -- ---- a line
 
 -- what a frame does goes by R and Q alone, and an emptied session by the four numbers
-act_same : (session other : Session) (shadow table : List ℕ) (k : Frame) → SameNumbers session other
+act_same : (session other : Session) (shadow table : List ℕ) (k : Asked) → SameNumbers session other
     → act other shadow table k ≡ act session shadow table k
 unfolding act
-act_same session other shadow table (Grant s) same = ap (λ R. grant R shadow table s) same.redzone
-act_same session other shadow table (Release a) same =
+act_same session other shadow table (Ok (Grant s)) same = ap (λ R. grant R shadow table s) same.redzone
+act_same session other shadow table (Ok (Release a)) same =
     ap₂ (λ R Q. release R Q shadow table a) same.redzone same.quarantine
-act_same session other shadow table (Read a n) same = refl
-act_same session other shadow table (Write a n) same = refl
-act_same session other shadow table (Refused answer) same = refl
+act_same session other shadow table (Ok (Read a n)) same = refl
+act_same session other shadow table (Ok (Write a n)) same = refl
+act_same session other shadow table (Err refusal) same = refl
 
 emptied_same : (session other : Session) → SameNumbers session other → emptied other ≡ emptied session
 unfolding emptied
@@ -111,7 +111,7 @@ emptied_same session other same =
     same.redzone same.quarantine
 
 -- a line with no line feed in it, and then a line feed: what its frame does
-line_runs : (st : State Pool) (line : List ℕ) (k : Frame) → st.session ≡ emptied st.session
+line_runs : (st : State Pool) (line : List ℕ) (k : Asked) → st.session ≡ emptied st.session
     → NoFeed line → frame_of_line (length line) line ≡ k
     → run watcher st (line ++ (line_feed ∷ []))
     ≡ told_as st (as_line (act st.session st.pool.shadow st.pool.table k))

@@ -7,12 +7,12 @@ use native.Mathlib.Omega.{arith}
 use mathlib.Core.Path.{◌≡◌, refl, sym, ap, subst, ◌∙◌}
 use mathlib.Core.Logic.{◌≢◌, ◌⊎◌, inl, inr, ⊎_elim}
 use mathlib.Core.Bool.{Bool, true, false, ◌&&◌, true≢false, ◌||◌}
-use mathlib.Core.Option.{none, some}
 use mathlib.Core.List.{List}
 use lib.ListN.{length, get_or}
 use lib.Seq.{ext_get_or}
 use lib.Dec.{eqb, leb, ltb}
 use borrow.Author.Tests.{eqb-true, eq-eqb, ne_eqb, leb-true, le-leb, ltb-true, lt-ltb}
+use Rattle.std.specs.Prelude.{Some, None}
 use Rattle.rules.specs.Limits.{granule, row_numbers, redzone_byte, released_byte, empty, live, quarantined}
 use Rattle.rules.specs.Lowest.{lowest}
 use Rattle.rules.specs.Table.{column, rows, start, size, state, turn}
@@ -71,8 +71,8 @@ over_covers table g i o =
 
 -- by what is over a granule: a held row, or none
 by_granule {ℓ} : (table : List ℕ) (g : ℕ) (P : Type ℓ)
-    → ((i : ℕ) → lowest (covers table g) (rows table) 0 ≡ some i → Over table g i → P)
-    → (lowest (covers table g) (rows table) 0 ≡ none → ((i : ℕ) → HeldRow table i → Off table i g) → P) → P
+    → ((i : ℕ) → lowest (covers table g) (rows table) 0 ≡ Some i → Over table g i → P)
+    → (lowest (covers table g) (rows table) 0 ≡ None → ((i : ℕ) → HeldRow table i → Off table i g) → P) → P
 by_granule table g P one nothing =
     by_found (lowest (covers table g) (rows table) 0)
     (λ i e.
@@ -118,12 +118,12 @@ painted_live : (table : List ℕ) (g i : ℕ) → state table i ≡ live
 unfolding painted
 painted_live table g i is = if_false _ _ (ne_eqb (state table i) quarantined (λ e. absurd (omega arith)))
 
-drawn_row : (table : List ℕ) (g i : ℕ) → lowest (covers table g) (rows table) 0 ≡ some i
+drawn_row : (table : List ℕ) (g i : ℕ) → lowest (covers table g) (rows table) 0 ≡ Some i
     → drawn_byte table g ≡ painted table g i
 unfolding drawn_byte
 drawn_row table g i e = rw (e, drawn_byte)
 
-drawn_none : (table : List ℕ) (g : ℕ) → lowest (covers table g) (rows table) 0 ≡ none
+drawn_none : (table : List ℕ) (g : ℕ) → lowest (covers table g) (rows table) 0 ≡ None
     → drawn_byte table g ≡ redzone_byte
 unfolding drawn_byte
 drawn_none table g e = rw (e, drawn_byte)

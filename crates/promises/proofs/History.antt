@@ -5,13 +5,13 @@ use native.Mathlib.Decide.{ℕ_discrete}
 use mathlib.Core.Path.{◌≡◌, refl, sym, ap, ap₂, subst, ◌∙◌}
 use mathlib.Core.Logic.{◌≢◌, ⊎_elim}
 use mathlib.Core.Bool.{Bool, true, false, true≢false}
-use mathlib.Core.Option.{Option, none, some}
 use mathlib.Core.List.{List, [], ◌∷◌, ◌++◌}
 use mathlib.Core.List.Memᴰ
 use lib.Dec.{eqb}
 use borrow.Author.Tests.{eqb-true, eq-eqb, ne_eqb}
-use Rattle.rules.specs.declared.Answer.{Answer}
-use Rattle.rules.specs.declared.Frame.{Frame}
+use Rattle.std.specs.Prelude.{Option, Some, None, Ok}
+use Rattle.rules.specs.Frames.{Asked}
+use Rattle.rules.specs.Answers.{Answer}
 use Rattle.rules.specs.declared.Frame.TheVariants.{Release}
 use Rattle.rules.specs.Answers.{in_numbers, status}
 use Rattle.rules.proofs.Tests.{by_found, by_test, if_false, if_true}
@@ -24,11 +24,11 @@ use Rattle.promises.proofs.Blocks.{lies_in_is, lies_in_not, others_of}
 
 -- ---- what a frame seeks
 
-pub release_seeks : (a : ℕ) → a ≢ 0 → sought_by (Release a) ≡ record { room = none; block = some a }
+pub release_seeks : (a : ℕ) → a ≢ 0 → sought_by (Ok (Release a)) ≡ record { room = None; block = Some a }
 unfolding sought_by block_at
-release_seeks a above = ap {B = Sought} (λ o. record { room = none; block = o }) (if_false _ _ (ne_eqb a 0 above))
+release_seeks a above = ap {B = Sought} (λ o. record { room = None; block = o }) (if_false _ _ (ne_eqb a 0 above))
 
-pub release_seeks_nothing : sought_by (Release 0) ≡ nothing_sought
+pub release_seeks_nothing : sought_by (Ok (Release 0)) ≡ nothing_sought
 unfolding sought_by block_at
 release_seeks_nothing = refl
 
@@ -62,30 +62,30 @@ two_kinds e = true≢false (ap is_grant e)
 -- ---- what a line that is done did: what it sought, and nothing else
 
 module _ (value : ℕ) where
-  grants_one : (o : Option ℕ) (s : ℕ) → o ≡ some s → Granted (block value s) ∈ grants_at value o
+  grants_one : (o : Option ℕ) (s : ℕ) → o ≡ Some s → Granted (block value s) ∈ grants_at value o
   unfolding grants_at
   grants_one o s e = subst (λ p. Granted (block value s) ∈ grants_at value p) (sym e) (Memᴰ.head refl)
 
   grants_only : (o : Option ℕ) (event : Event) → event ∈ grants_at value o
-      → (s : ℕ) × (o ≡ some s) × (event ≡ Granted (block value s))
+      → (s : ℕ) × (o ≡ Some s) × (event ≡ Granted (block value s))
   unfolding grants_at
-  grants_only none event m = absurd (Memᴰ.not-nil m)
-  grants_only (some s) event m =
+  grants_only None event m = absurd (Memᴰ.not-nil m)
+  grants_only (Some s) event m =
       ⊎_elim (λ e. (s, refl, e)) (λ later. absurd (Memᴰ.not-nil later)) (Memᴰ.cases_cons m)
 
-releases_only : (o : Option ℕ) (event : Event) → event ∈ releases_at o → (a : ℕ) × (o ≡ some a) × (event ≡ Released a)
+releases_only : (o : Option ℕ) (event : Event) → event ∈ releases_at o → (a : ℕ) × (o ≡ Some a) × (event ≡ Released a)
 unfolding releases_at
-releases_only none event m = absurd (Memᴰ.not-nil m)
-releases_only (some a) event m =
+releases_only None event m = absurd (Memᴰ.not-nil m)
+releases_only (Some a) event m =
     ⊎_elim (λ e. (a, refl, e)) (λ later. absurd (Memᴰ.not-nil later)) (Memᴰ.cases_cons m)
 
 module _ (sought : Sought) (value : ℕ) where
-  pub did_grant : (s : ℕ) → sought.room ≡ some s → Granted (block value s) ∈ did sought value
+  pub did_grant : (s : ℕ) → sought.room ≡ Some s → Granted (block value s) ∈ did sought value
   unfolding did
   did_grant s e = Memᴰ.append_left (releases_at sought.block) (grants_one value sought.room s e)
 
   pub granted_only : (y : Block) → Granted y ∈ did sought value
-      → (s : ℕ) × (sought.room ≡ some s) × (y ≡ block value s)
+      → (s : ℕ) × (sought.room ≡ Some s) × (y ≡ block value s)
   unfolding did
   granted_only y m =
       ⊎_elim
@@ -93,66 +93,66 @@ module _ (sought : Sought) (value : ℕ) where
       (λ n. let g = releases_only sought.block (Granted y) n in absurd (two_kinds g.2))
       (Memᴰ.append_cases (grants_at value sought.room) m)
 
-  pub released_only : (a : ℕ) → Released a ∈ did sought value → sought.block ≡ some a
+  pub released_only : (a : ℕ) → Released a ∈ did sought value → sought.block ≡ Some a
   unfolding did
   released_only a m =
       ⊎_elim
       (λ n. let g = grants_only value sought.room (Released a) n in absurd (two_kinds (sym g.2)))
-      (λ n. let g = releases_only sought.block (Released a) n in g.1 ∙ ap some (sym (one_address g.2)))
+      (λ n. let g = releases_only sought.block (Released a) n in g.1 ∙ ap Some (sym (one_address g.2)))
       (Memᴰ.append_cases (grants_at value sought.room) m)
 
 -- a block alone, and room and a block
-pub did_alone : (sought : Sought) (value a : ℕ) → sought.room ≡ none → sought.block ≡ some a
+pub did_alone : (sought : Sought) (value a : ℕ) → sought.room ≡ None → sought.block ≡ Some a
     → did sought value ≡ Released a ∷ []
 unfolding did grants_at releases_at
 did_alone sought value a no_room block = ap₂ (λ o p. grants_at value o ++ releases_at p) no_room block
 
-pub did_both : (sought : Sought) (value s a : ℕ) → sought.room ≡ some s → sought.block ≡ some a
+pub did_both : (sought : Sought) (value s a : ℕ) → sought.room ≡ Some s → sought.block ≡ Some a
     → did sought value ≡ Granted (block value s) ∷ Released a ∷ []
 unfolding did grants_at releases_at
 did_both sought value s a room block = ap₂ (λ o p. grants_at value o ++ releases_at p) room block
 
-pub did_release : (a value : ℕ) → a ≢ 0 → did (sought_by (Release a)) value ≡ Released a ∷ []
+pub did_release : (a value : ℕ) → a ≢ 0 → did (sought_by (Ok (Release a))) value ≡ Released a ∷ []
 did_release a value above =
-    let alone : sought_by (Release a) ≡ record { room = none; block = some a } = release_seeks a above in
-    did_alone (sought_by (Release a)) value a (ap (λ s. s.room) alone) (ap (λ s. s.block) alone)
+    let alone : sought_by (Ok (Release a)) ≡ record { room = None; block = Some a } = release_seeks a above in
+    did_alone (sought_by (Ok (Release a))) value a (ap (λ s. s.room) alone) (ap (λ s. s.block) alone)
 
 -- ---- one line
 
 -- a line that is done
-pub events_done : (x : Exchange) (value : ℕ) → status_of x ≡ some 0 → value_of x ≡ some value
+pub events_done : (x : Exchange) (value : ℕ) → status_of x ≡ Some 0 → value_of x ≡ Some value
     → events x ≡ did (seeks x) value
 unfolding events
 events_done x value says_status says_value = rw (says_status, events) (rw says_value)
 
 -- a line that is refused
-events_refused : (x : Exchange) (s : ℕ) → status_of x ≡ some s → s ≢ 0 → events x ≡ []
+events_refused : (x : Exchange) (s : ℕ) → status_of x ≡ Some s → s ≢ 0 → events x ≡ []
 unfolding events
 events_refused x s says_status refused = rw (says_status, events) (rw (ne_eqb s 0 refused))
 
 -- by what a line says
 by_events {ℓ} : (x : Exchange) (P : List Event → Type ℓ) → P []
-    → ((value : ℕ) → status_of x ≡ some 0 → value_of x ≡ some value → P (did (seeks x) value)) → P (events x)
+    → ((value : ℕ) → status_of x ≡ Some 0 → value_of x ≡ Some value → P (did (seeks x) value)) → P (events x)
 unfolding events
-by_events x P none· said =
+by_events x P None· said =
     by_found (status_of x)
     (λ s e.
     by_test (eqb s 0)
     (λ is_done.
-    let zeroed : status_of x ≡ some 0 = e ∙ ap some (eqb-true s 0 is_done) in
+    let zeroed : status_of x ≡ Some 0 = e ∙ ap Some (eqb-true s 0 is_done) in
     by_found (value_of x)
     (λ v f. subst P (sym (events_done x v zeroed f)) (said v zeroed f))
-    (λ f. subst P (sym (rw (zeroed, events) (rw f))) none·))
-    (λ not_done. subst P (sym (rw (e, events) (rw not_done))) none·))
-    (λ e. subst P (sym (rw (e, events))) none·)
+    (λ f. subst P (sym (rw (zeroed, events) (rw f))) None·))
+    (λ not_done. subst P (sym (rw (e, events) (rw not_done))) None·))
+    (λ e. subst P (sym (rw (e, events))) None·)
 
 -- a line that granted or released something is done, and it sought that
 pub record DidGrant (x : Exchange) (y : Block) : Type 0 where
   pub size : ℕ
   pub address : ℕ
-  pub sought : (seeks x).room ≡ some size
-  pub status_is : status_of x ≡ some 0
-  pub value_is : value_of x ≡ some address
+  pub sought : (seeks x).room ≡ Some size
+  pub status_is : status_of x ≡ Some 0
+  pub value_is : value_of x ≡ Some address
   pub block_is : y ≡ block address size
 
 pub granted_by : (x : Exchange) (y : Block) → Granted y ∈ events x → DidGrant x y
@@ -169,9 +169,9 @@ granted_by x y =
       block_is = g.2;
     })
 
-pub released_by : (x : Exchange) (a : ℕ) → Released a ∈ events x → ((seeks x).block ≡ some a) × (status_of x ≡ some 0)
+pub released_by : (x : Exchange) (a : ℕ) → Released a ∈ events x → ((seeks x).block ≡ Some a) × (status_of x ≡ Some 0)
 released_by x a =
-    by_events x (λ es. Released a ∈ es → ((seeks x).block ≡ some a) × (status_of x ≡ some 0))
+    by_events x (λ es. Released a ∈ es → ((seeks x).block ≡ Some a) × (status_of x ≡ Some 0))
     (λ m. absurd (Memᴰ.not-nil m))
     (λ value says_status says_value m. (released_only (seeks x) value a m, says_status))
 
@@ -218,21 +218,21 @@ module _ (b : ℕ) where
 -- ---- what an answer tells
 
 -- what a line did, by its frame and the answer itself
-unfoldable pub told : Frame → Answer → List Event
+unfoldable pub told : Asked → Answer → List Event
 told frame answer =
     elim (eqb (status answer) 0) [ true ↦ did (sought_by frame) (in_numbers answer).value | false ↦ [] ]
 
-pub told_done : (frame : Frame) (answer : Answer) → status answer ≡ 0
+pub told_done : (frame : Asked) (answer : Answer) → status answer ≡ 0
     → told frame answer ≡ did (sought_by frame) (in_numbers answer).value
 unfolding told
 told_done frame answer e = if_true _ _ (eq-eqb (status answer) 0 e)
 
-told_refused : (frame : Frame) (answer : Answer) → status answer ≢ 0 → told frame answer ≡ []
+told_refused : (frame : Asked) (answer : Answer) → status answer ≢ 0 → told frame answer ≡ []
 unfolding told
 told_refused frame answer e = if_false _ _ (ne_eqb (status answer) 0 e)
 
 -- where nothing is sought, nothing happens
-pub told_nothing : (frame : Frame) (answer : Answer) → sought_by frame ≡ nothing_sought → told frame answer ≡ []
+pub told_nothing : (frame : Asked) (answer : Answer) → sought_by frame ≡ nothing_sought → told frame answer ≡ []
 unfolding did grants_at releases_at
 told_nothing frame answer nothing =
     elim (ℕ_discrete (status answer) 0) [
@@ -241,13 +241,13 @@ told_nothing frame answer nothing =
     ]
 
 -- an exchange that says the answer is heard as the answer tells
-pub events_told : (x : Exchange) (answer : Answer) → status_of x ≡ some (status answer)
-    → value_of x ≡ some (in_numbers answer).value
+pub events_told : (x : Exchange) (answer : Answer) → status_of x ≡ Some (status answer)
+    → value_of x ≡ Some (in_numbers answer).value
     → events x ≡ told (asks x) answer
 unfolding seeks
 events_told x answer says_status says_value =
     elim (ℕ_discrete (status answer) 0) [
-      | yes e ↦ events_done x (in_numbers answer).value (says_status ∙ ap some e) says_value
+      | yes e ↦ events_done x (in_numbers answer).value (says_status ∙ ap Some e) says_value
           ∙ sym (told_done (asks x) answer e)
       | no e ↦ events_refused x (status answer) says_status e ∙ sym (told_refused (asks x) answer e)
     ]

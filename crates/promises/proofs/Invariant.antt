@@ -8,11 +8,11 @@ use mathlib.Core.List.Memᴰ
 use mathlib.Core.List.{List, ◌∷◌, ◌++◌}
 use lib.ListN.{length, length-append}
 use borrow.Author.Tests.{eqb-true}
+use Rattle.std.specs.Prelude.{Ok, Err}
+use Rattle.rules.specs.Frames.{Asked}
 use Rattle.rules.specs.declared.Session.{Session}
-use Rattle.rules.specs.declared.Answer.{Answer}
-use Rattle.rules.specs.declared.Answer.TheVariants.{Done}
-use Rattle.rules.specs.declared.Frame.{Frame}
-use Rattle.rules.specs.declared.Frame.TheVariants.{Grant, Release, Read, Write, Refused}
+use Rattle.rules.specs.Answers.{Answer}
+use Rattle.rules.specs.declared.Frame.TheVariants.{Grant, Release, Read, Write}
 use Rattle.rules.specs.Limits.{empty, live, quarantined}
 use Rattle.rules.specs.Table.{rows, state, is_empty}
 use Rattle.rules.specs.Answers.{in_numbers, status}
@@ -46,15 +46,15 @@ pub record Stands (S R Q : ℕ) (shadow table : List ℕ) (h : History) : Type 0
   pub queue : Queue R table (latest R Q h.released)
 
 -- what a line or a direct call leaves, with its answer heard
-abbrev Leaves : ℕ → ℕ → ℕ → History → Frame → Acted → Type 0
+abbrev Leaves : ℕ → ℕ → ℕ → History → Asked → Acted → Type 0
 Leaves S R Q h frame acted = Stands S R Q acted.shadow acted.table (happen h (told frame acted.answer))
 
 module _ {S R Q : ℕ} {shadow table : List ℕ} {h : History} (stands : Stands S R Q shadow table h) where
   -- a grant
-  stands_grant : (s : ℕ) → Leaves S R Q h (Grant s) (grant R shadow table s)
+  stands_grant : (s : ℕ) → Leaves S R Q h (Ok (Grant s)) (grant R shadow table s)
   unfolding told sought_by grants_at releases_at did happens happen status in_numbers grant_at
   stands_grant s =
-      by_grant R shadow table s (Leaves S R Q h (Grant s)) (λ full. stands) (λ i row nowhere. stands)
+      by_grant R shadow table s (Leaves S R Q h (Ok (Grant s))) (λ full. stands) (λ i row nowhere. stands)
       (λ i p row at_place.
       let l : Lowest (is_empty table) (rows table) 0 i = empty_row_some table i row in
       let below : i < rows table = below_all l in
@@ -84,14 +84,14 @@ module _ {S R Q : ℕ} {shadow table : List ℕ} {h : History} (stands : Stands 
       (queue_quarantine R pool (latest R Q h.released) i s.below s.has stands.queue))
 
   -- a release
-  stands_release : (a : ℕ) → Leaves S R Q h (Release a) (release R Q shadow table a)
+  stands_release : (a : ℕ) → Leaves S R Q h (Ok (Release a)) (release R Q shadow table a)
   unfolding told happens happen status in_numbers release_row
   stands_release a =
-      by_release R Q shadow table a (Leaves S R Q h (Release a))
+      by_release R Q shadow table a (Leaves S R Q h (Ok (Release a)))
       (λ e.
-      subst (λ c. Leaves S R Q h (Release c) (unchanged (Done 0) shadow table)) (sym e)
+      subst (λ c. Leaves S R Q h (Ok (Release c)) (unchanged (Ok 0) shadow table)) (sym e)
       (subst (λ es. Stands S R Q shadow table (happen h es))
-      (sym (told_nothing (Release 0) (Done 0) release_seeks_nothing)) stands))
+      (sym (told_nothing (Ok (Release 0)) (Ok 0) release_seeks_nothing)) stands))
       (λ above no_live no_quarantined. stands)
       (λ above no_live i e. stands)
       (λ above i e.
@@ -99,7 +99,7 @@ module _ {S R Q : ℕ} {shadow table : List ℕ} {h : History} (stands : Stands 
       let s : StartsAt live table a i = row_at_some live table a i e in
       let acted : Acted = release_row R Q pool i in
       subst (λ es. Stands S R Q acted.shadow acted.table (happen h es))
-      (sym (told_done (Release a) acted.answer refl ∙ did_release a _ above))
+      (sym (told_done (Ok (Release a)) acted.answer refl ∙ did_release a _ above))
       (record {
         above = stands.above;
         standing = standing_settle Q (quarantine_row pool i)
@@ -108,7 +108,7 @@ module _ {S R Q : ℕ} {shadow table : List ℕ} {h : History} (stands : Stands 
       }))
 
 -- a line that seeks nothing and leaves shadow and table as they were
-nothing_happens : {S : ℕ} (session : Session) (shadow table : List ℕ) (h : History) (frame : Frame) (answer : Answer)
+nothing_happens : {S : ℕ} (session : Session) (shadow table : List ℕ) (h : History) (frame : Asked) (answer : Answer)
     → sought_by frame ≡ nothing_sought → Stands S session.redzone session.quarantine shadow table h
     → Leaves S session.redzone session.quarantine h frame (unchanged answer shadow table)
 unfolding happen
@@ -117,18 +117,18 @@ nothing_happens {S} session shadow table h frame answer nothing stands =
     (sym (told_nothing frame answer nothing)) stands
 
 -- a line, whatever it asks
-stands_act : {S : ℕ} (session : Session) (shadow table : List ℕ) (h : History) (frame : Frame)
+stands_act : {S : ℕ} (session : Session) (shadow table : List ℕ) (h : History) (frame : Asked)
     → Stands S session.redzone session.quarantine shadow table h
     → Leaves S session.redzone session.quarantine h frame (act session shadow table frame)
 unfolding act sought_by
-stands_act session shadow table h (Grant s) stands = stands_grant stands s
-stands_act session shadow table h (Release a) stands = stands_release stands a
-stands_act session shadow table h (Read a n) stands =
-    nothing_happens session shadow table h (Read a n) _ refl stands
-stands_act session shadow table h (Write a n) stands =
-    nothing_happens session shadow table h (Write a n) _ refl stands
-stands_act session shadow table h (Refused answer) stands =
-    nothing_happens session shadow table h (Refused answer) answer refl stands
+stands_act session shadow table h (Ok (Grant s)) stands = stands_grant stands s
+stands_act session shadow table h (Ok (Release a)) stands = stands_release stands a
+stands_act session shadow table h (Ok (Read a n)) stands =
+    nothing_happens session shadow table h (Ok (Read a n)) _ refl stands
+stands_act session shadow table h (Ok (Write a n)) stands =
+    nothing_happens session shadow table h (Ok (Write a n)) _ refl stands
+stands_act session shadow table h (Err refusal) stands =
+    nothing_happens session shadow table h (Err refusal) (Err refusal) refl stands
 
 -- ---- held blocks and held rows
 

@@ -6,22 +6,22 @@ use native.Mathlib.Nat.{le_of_eq, mod-lt}
 use native.Mathlib.Omega.{arith}
 use mathlib.Core.Path.{◌≡◌, refl, sym, ap, ap₂, subst, ◌∙◌}
 use mathlib.Core.Logic.{◌≢◌}
-use mathlib.Core.Option.{some, none-ne-some}
 use mathlib.Core.List.{List, [], ◌∷◌, ◌++◌, append_assoc, append-nil}
 use lib.ListN.{length, set, replicate, length-append}
 use lib.Seq.{append_snoc, set_at}
 use borrow.Author.Tests.{ne_eqb}
+use Rattle.std.specs.Prelude.{Some, Err, Ok}
+use Rattle.std.proofs.lemmas.Option.{none-some}
+use Rattle.rules.specs.declared.Refusal.TheVariants.{BadLine, BadKind, NotZero}
 use Rattle.rules.specs.declared.Session.{Session}
-use Rattle.rules.specs.declared.Answer.{Answer}
-use Rattle.rules.specs.declared.Answer.TheVariants.{BadLine, BadKind, NotZero}
-use Rattle.rules.specs.declared.Frame.{Frame}
-use Rattle.rules.specs.declared.Frame.TheVariants.{Grant, Release, Read, Write, Refused}
+use Rattle.rules.specs.Answers.{Answer}
+use Rattle.rules.specs.declared.Frame.TheVariants.{Grant, Release, Read, Write}
 use Rattle.rules.specs.Field.{Field}
 use Rattle.rules.specs.Limits.{frame_digits, too_long, line_feed, answer_fields, answer_status, answer_kind}
 use Rattle.rules.specs.Limits.{answer_value}
 use Rattle.rules.specs.Answers.{in_numbers, status}
 use Rattle.rules.specs.Hex.{hex_digit, digit, digits, digits_zero, digits_suc, written, written_nil, written_cons}
-use Rattle.rules.specs.Frames.{fields, frame, asked, frame_of_line, answer_line}
+use Rattle.rules.specs.Frames.{Asked, fields, frame, asked, frame_of_line, answer_line}
 use Rattle.rules.specs.Feed.{no_bytes, lengthened}
 use Rattle.rules.proofs.Tests.{by_order, if_false}
 use Rattle.rules.proofs.Hex.{hex_digit_digit, no_line_feed, read_back}
@@ -44,7 +44,7 @@ lines_byte line b text other = if_false _ _ (ne_eqb b line_feed other)
 
 -- a hex digit is no line feed
 pub digit_no_feed : (d : ℕ) → d < 16 → digit d ≢ line_feed
-digit_no_feed d below e = none-ne-some d (sym (ap hex_digit e ∙ no_line_feed) ∙ hex_digit_digit d below)
+digit_no_feed d below e = none-some d (sym (ap hex_digit e ∙ no_line_feed) ∙ hex_digit_digit d below)
 
 -- so digits lengthen a line
 lines_digits : (k n : ℕ) (line text : List ℕ) → lines_on line (digits k n ++ text) ≡ lines_on (line ++ digits k n) text
@@ -90,17 +90,17 @@ lines_answer answer text =
 
 -- what it says is read back where it fits the digits
 pub status_answered : (line : List ℕ) (answer : Answer) → status answer < 16 ^ 2
-    → status_of (record { line = line; answer = answer_digits answer }) ≡ some (status answer)
+    → status_of (record { line = line; answer = answer_digits answer }) ≡ Some (status answer)
 unfolding status_of status
 status_answered line answer fits = read_back answer_fields (in_numbers answer) answer_status fits
 
 pub kind_answered : (line : List ℕ) (answer : Answer) → (in_numbers answer).kind < 16 ^ 2
-    → kind_of (record { line = line; answer = answer_digits answer }) ≡ some (in_numbers answer).kind
+    → kind_of (record { line = line; answer = answer_digits answer }) ≡ Some (in_numbers answer).kind
 unfolding kind_of
 kind_answered line answer fits = read_back answer_fields (in_numbers answer) answer_kind fits
 
 pub value_answered : (line : List ℕ) (answer : Answer) → (in_numbers answer).value < 16 ^ 8
-    → value_of (record { line = line; answer = answer_digits answer }) ≡ some (in_numbers answer).value
+    → value_of (record { line = line; answer = answer_digits answer }) ≡ Some (in_numbers answer).value
 unfolding value_of
 value_answered line answer fits = read_back answer_fields (in_numbers answer) answer_value fits
 
@@ -115,8 +115,8 @@ pub record Spells (session : Session) (bytes : List ℕ) : Type 0 where
 
 -- an empty one for none
 pub spells_none : (session : Session) → session.unfinished ≡ 0 → session.line ≡ no_bytes → Spells session []
-spells_none session none empty =
-    record { count = λ few. none; places = λ few. empty; more = λ many. absurd (omega arith) }
+spells_none session no_bytes_yet empty =
+    record { count = λ few. no_bytes_yet; places = λ few. empty; more = λ many. absurd (omega arith) }
 
 -- one byte longer, for one byte more
 pub spells_more : {session : Session} {bytes : List ℕ} → Spells session bytes → (b : ℕ)
@@ -165,11 +165,11 @@ spells_asks {session} {bytes} spells =
 -- ---- what a line asks
 
 -- by what a line asks, whatever its bytes: its numbers have 32 bits
-module _ (P : Frame → Type 0) (bad_line : P (Refused BadLine)) (no_kind : P (Refused BadKind))
-    (not_zero : P (Refused NotZero))
-    (grants : (s : ℕ) → s < 16 ^ 8 → P (Grant s)) (releases : (a : ℕ) → a < 16 ^ 8 → P (Release a))
-    (reads : (a n : ℕ) → a < 16 ^ 8 → n < 16 ^ 8 → P (Read a n))
-    (writes : (a n : ℕ) → a < 16 ^ 8 → n < 16 ^ 8 → P (Write a n)) where
+module _ (P : Asked → Type 0) (bad_line : P (Err BadLine)) (no_kind : P (Err BadKind))
+    (not_zero : P (Err NotZero))
+    (grants : (s : ℕ) → s < 16 ^ 8 → P (Ok (Grant s))) (releases : (a : ℕ) → a < 16 ^ 8 → P (Ok (Release a)))
+    (reads : (a n : ℕ) → a < 16 ^ 8 → n < 16 ^ 8 → P (Ok (Read a n)))
+    (writes : (a n : ℕ) → a < 16 ^ 8 → n < 16 ^ 8 → P (Ok (Write a n))) where
   by_numbers : (kind A B : ℕ) → A < 16 ^ 8 → B < 16 ^ 8 → P (frame (fields kind A B))
   by_numbers kind A B fits fits' =
       by_kind kind A B P

@@ -3,11 +3,10 @@
 use native.Mathlib.Omega.{arith}
 use mathlib.Core.Path.{◌≡◌, sym, ap, ◌∙◌, refl}
 use lib.ListN.{length, get_or, replicate}
-use Rattle.rules.specs.declared.Verdict.TheVariants.{Bad}
 use Rattle.rules.specs.declared.Region.TheVariants.{LowMem, LowShadow, HighShadow, HighMem}
 use Rattle.rules.specs.declared.Map.{Map}
 use Rattle.rules.specs.Limits.{redzone_byte, released_byte}
-use Rattle.rules.specs.Shadow.{shadow_of}
+use Rattle.rules.specs.Shadow.{shadow_of, bad}
 use Rattle.rules.specs.Answers.{opening_status, map_status}
 use Rattle.rules.specs.Release.{quarantine_row}
 use Rattle.rules.specs.Maps.{map32, map64, shadow_address, region_number, map_answer, map_shadow, Published}
@@ -53,7 +52,7 @@ verdicts = record {
   bad = λ shadow a n k b. (
     bad_judge shadow a n k b,
     λ first. judge_bad shadow a n b first.0
-        ∙ ap (λ m. Bad m b) (sym first.1),
+        ∙ ap (λ m. bad m b) (sym first.1),
   );
   kind_inside = kind_inside;
   kind_outside = kind_outside;

@@ -3,10 +3,10 @@
 use Prim.Native.Nat.{ℕ, ◌+◌, ◌*◌, ◌≤◌, ◌<◌, ◌-◌}
 use native.Mathlib.Omega.{arith}
 use mathlib.Core.Path.{◌≡◌, sym, ap, ◌∙◌}
-use mathlib.Core.Option.{some}
 use mathlib.Core.List.Memᴰ
 use mathlib.Core.List.{List, [], ◌∷◌}
 use lib.ListN.{length, take, length-take}
+use Rattle.std.specs.Prelude.{Some}
 use Rattle.rules.specs.Limits.{granule}
 use Rattle.rules.proofs.Grant.{grant_keeps}
 use Rattle.promises.specs.History.{Block, block, has_byte, heard_all, weigh, latest, held}
@@ -70,7 +70,7 @@ evicted r before x line a alone is_done =
     left_as _ _ _ _ _ x (finding (line_moment r before x line)) a alone is_done
     ∙ ap
     (λ g.
-    some
+    Some
     (length (quarantine_at r before) + 1 - length (latest (session r).redzone (session r).quarantine g.released)))
     (sym (heard_append r.earlier before (x ∷ [])))
 

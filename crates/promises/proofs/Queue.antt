@@ -12,6 +12,7 @@ use mathlib.Core.Option.{some, some-injective}
 use mathlib.Core.List.{List, [], ◌∷◌, ◌++◌}
 use lib.ListN.{length, get_elem?, length-append}
 use borrow.Author.Tests.{eqb-true, eq-eqb, ne_eqb}
+use Rattle.std.specs.Prelude.{Some}
 use Rattle.rules.specs.Limits.{start_column, size_column, state_column, turn_column, row_numbers, live, quarantined}
 use Rattle.rules.specs.Lowest.{total}
 use Rattle.rules.specs.Table.{rows, column, size, state, turn, is_quarantined, put_row}
@@ -370,7 +371,7 @@ queue_settle R Q =
     (subst (Queue R pool.table) (sym (latest_all R Q blocks (omega (arith, q.weighed)))) q))
     (λ pool heavy ih blocks q.
     let i : ℕ = (some_oldest R Q pool.table heavy).0 in
-    let e : oldest pool.table (rows pool.table) ≡ some i = (some_oldest R Q pool.table heavy).1 in
+    let e : oldest pool.table (rows pool.table) ≡ Some i = (some_oldest R Q pool.table heavy).1 in
     let o : Oldest pool.table (rows pool.table) i = oldest_some pool.table (rows pool.table) i e in
     let y : Block = block_of pool.table i in
     let left : (rest : List Block) × (blocks ≡ rest ++ (y ∷ [])) × Queue R (evict_row pool i).table rest =

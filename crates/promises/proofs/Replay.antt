@@ -4,14 +4,14 @@ use Prim.Native.Nat.{ℕ, suc, ◌^◌, ◌<◌}
 use native.Mathlib.Omega.{arith}
 use mathlib.Core.Path.{◌≡◌, refl, sym, ap, ap₂, subst, ◌∙◌}
 use mathlib.Core.Logic.{◌≢◌}
-use mathlib.Core.Option.{some, Option, some-injective}
 use mathlib.Core.List.{List, [], ◌∷◌, ◌++◌, cons-ne-nil, head-eq_of_cons-eq, tail-eq_of_cons-eq}
 use lib.ListN.{length}
-use Rattle.rules.specs.declared.Answer.{Answer}
-use Rattle.rules.specs.declared.Frame.{Frame}
+use Rattle.std.specs.Prelude.{Option, Some}
+use Rattle.std.proofs.lemmas.Option.{same_Some}
+use Rattle.rules.specs.Answers.{Answer}
 use Rattle.rules.specs.Limits.{line_feed}
 use Rattle.rules.specs.Answers.{in_numbers, status}
-use Rattle.rules.specs.Frames.{frame, frame_of_line}
+use Rattle.rules.specs.Frames.{Asked, frame, frame_of_line}
 use Rattle.rules.specs.Release.{Pool}
 use Rattle.rules.specs.Feed.{State, Ran, act_line, emptied, finish, hold, after, run, run_nil, run_cons}
 use Rattle.rules.specs.Watcher.{act, watcher, outcome}
@@ -43,7 +43,7 @@ idle_spells {st} idle =
 -- ---- the moment of a line
 
 -- the frame of the line that a line feed would finish
-abbrev pub asked : State Pool → Frame
+abbrev pub asked : State Pool → Asked
 asked st = frame_of_line st.session.unfinished st.session.line
 
 -- the moment at which a line is answered: the state that it meets, and what its exchange says
@@ -51,13 +51,13 @@ pub record Moment (P : State Pool → History → Type 0) (h : History) (x : Exc
   pub st : State Pool
   pub holds : P st h
   pub asks_is : asks x ≡ asked st
-  pub status_is : status_of x ≡ some (status (act_line watcher st).answer)
+  pub status_is : status_of x ≡ Some (status (act_line watcher st).answer)
   pub kind_is : (in_numbers (act_line watcher st).answer).kind < 16 ^ 2 → kind_of x
-      ≡ some (in_numbers (act_line watcher st).answer).kind
-  pub value_is : value_of x ≡ some (in_numbers (act_line watcher st).answer).value
+      ≡ Some (in_numbers (act_line watcher st).answer).kind
+  pub value_is : value_of x ≡ Some (in_numbers (act_line watcher st).answer).value
 
 -- what the line's frame does is what the moment's line does
-pub acted_on : {P : State Pool → History → Type 0} {h : History} {x : Exchange} (m : Moment P h x) (frame : Frame)
+pub acted_on : {P : State Pool → History → Type 0} {h : History} {x : Exchange} (m : Moment P h x) (frame : Asked)
     → asks x ≡ frame
     → act_line watcher m.st ≡ outcome (act m.st.session m.st.pool.shadow m.st.pool.table frame)
 unfolding act_line
@@ -65,8 +65,8 @@ acted_on m frame e =
     ap (λ k. outcome (act m.st.session m.st.pool.shadow m.st.pool.table k)) (sym m.asks_is ∙ e)
 
 -- what is read off an answer is one number
-pub one_status : {o : Option ℕ} {s t : ℕ} → o ≡ some s → o ≡ some t → s ≡ t
-one_status {s = s} {t = t} e f = some-injective s t (sym e ∙ f)
+pub one_status : {o : Option ℕ} {s t : ℕ} → o ≡ Some s → o ≡ Some t → s ≡ t
+one_status {s = s} {t = t} e f = same_Some s t (sym e ∙ f)
 
 -- what each byte keeps of a state and the history so far: after a log it holds of the last state, and at each line of
 -- the log

@@ -7,10 +7,11 @@ use native.Mathlib.Omega.{arith}
 use mathlib.Core.Path.{◌≡◌, refl, ap, subst}
 use mathlib.Core.Logic.{inl, ⊎_elim}
 use mathlib.Core.Bool.{true, false, true≢false}
-use mathlib.Core.Option.{Option, some, some-injective}
 use mathlib.Core.List.Memᴰ
 use mathlib.Core.List.{List, [], ◌∷◌, ◌++◌}
 use lib.ListN.{length, replicate}
+use Rattle.std.specs.Prelude.{Option, Some}
+use Rattle.std.proofs.lemmas.Option.{same_Some}
 use Rattle.rules.specs.declared.Session.{Session}
 use Rattle.rules.specs.Limits.{line_feed}
 use Rattle.rules.specs.Release.{in_quarantine, weight, Pool}
@@ -148,15 +149,15 @@ granted_again_sharp never =
 pub until_granted_sharp :
     ((r : Replay) (before between : List Exchange) (gone x : Exchange) → Line r (before ++ (gone ∷ between)) x
     → (y : Block) → y ∈ live_at r before → Released y.address ∈ events gone → (b : ℕ) → has_byte y b ≡ true
-    → (a n : ℕ) → Touches x a n → a ≤ b → b < a + n → status_of x ≡ some 9) → ⊥
+    → (a n : ℕ) → Touches x a n → a ≤ b → b < a + n → status_of x ≡ Some 9) → ⊥
 unfolding by_replaying has_byte
 until_granted_sharp always =
     let line : Line again (grants_17 ∷ releases_17 ∷ grants_17 ∷ []) read_17 = record { after = []; is = again_is } in
-    let says : ◌≡◌ {A = Option ℕ} (some 0) (some 9) =
+    let says : ◌≡◌ {A = Option ℕ} (Some 0) (Some 9) =
     always again (grants_17 ∷ []) (grants_17 ∷ []) releases_17 read_17 line (block 0x10 17) (Memᴰ.head refl)
     (Memᴰ.head refl)
     0x10 refl 0x10 1 (inl refl) (omega arith) (omega arith) in
-    omega (arith, some-injective 0 9 says)
+    omega (arith, same_Some 0 9 says)
 
 -- ---- good and bad
 
@@ -180,23 +181,23 @@ two_reads_are = refl
 -- neither is every access reported, nor is none
 pub reported_sharp :
     ((r : Replay) (before : List Exchange) (x : Exchange) → Line r before x
-    → (a n : ℕ) → Touches x a n → status_of x ≡ some 9) → ⊥
+    → (a n : ℕ) → Touches x a n → status_of x ≡ Some 9) → ⊥
 unfolding by_replaying
 reported_sharp always =
     let line : Line two_reads (granted_one ∷ []) read_it = record { after = read_after ∷ []; is = two_reads_are } in
-    let says : ◌≡◌ {A = Option ℕ} (some 0) (some 9) =
+    let says : ◌≡◌ {A = Option ℕ} (Some 0) (Some 9) =
     always two_reads (granted_one ∷ []) read_it line 0x10 1 (inl refl) in
-    omega (arith, some-injective 0 9 says)
+    omega (arith, same_Some 0 9 says)
 
 pub passed_sharp :
     ((r : Replay) (before : List Exchange) (x : Exchange) → Line r before x
-    → (a n : ℕ) → Touches x a n → status_of x ≡ some 0) → ⊥
+    → (a n : ℕ) → Touches x a n → status_of x ≡ Some 0) → ⊥
 unfolding by_replaying
 passed_sharp always =
     let line : Line two_reads (granted_one ∷ read_it ∷ []) read_after = record { after = []; is = two_reads_are } in
-    let says : ◌≡◌ {A = Option ℕ} (some 9) (some 0) =
+    let says : ◌≡◌ {A = Option ℕ} (Some 9) (Some 0) =
     always two_reads (granted_one ∷ read_it ∷ []) read_after line 0x11 1 (inl refl) in
-    omega (arith, some-injective 9 0 says)
+    omega (arith, same_Some 9 0 says)
 
 -- ---- a longer report, and 12 bytes of room
 

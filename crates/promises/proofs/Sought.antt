@@ -5,15 +5,17 @@ use native.Mathlib.Omega.{arith}
 use native.Mathlib.Decide.{ℕ_discrete}
 use mathlib.Core.Path.{◌≡◌, refl, sym, ap, subst, ◌∙◌, ap₂}
 use mathlib.Core.Logic.{◌≢◌, ◌⊎◌, inl, inr, ⊎_elim}
-use mathlib.Core.Option.{Option, none, some, none-ne-some}
 use mathlib.Core.List.Memᴰ
 use mathlib.Core.List.{List, ◌++◌, ◌∷◌}
 use lib.ListN.{length}
 use borrow.Author.Tests.{eqb-true}
-use Rattle.rules.specs.declared.Answer.{Answer}
-use Rattle.rules.specs.declared.Answer.TheVariants.{Done, BadLine, BadKind, NotZero}
-use Rattle.rules.specs.declared.Frame.{Frame}
-use Rattle.rules.specs.declared.Frame.TheVariants.{Grant, Release, Read, Write, Refused}
+use Rattle.std.specs.Prelude.{Option, Some, None, Ok, Err}
+use Rattle.std.proofs.lemmas.Option.{none-some}
+use Rattle.rules.specs.Frames.{Asked}
+use Rattle.rules.specs.declared.Refusal.{Refusal}
+use Rattle.rules.specs.declared.Refusal.TheVariants.{BadLine, BadKind, NotZero}
+use Rattle.rules.specs.Answers.{Answer}
+use Rattle.rules.specs.declared.Frame.TheVariants.{Grant, Release, Read, Write}
 use Rattle.rules.specs.Limits.{granule, empty, live, quarantined}
 use Rattle.rules.specs.Table.{rows, start, state, is_empty}
 use Rattle.rules.specs.Answers.{in_numbers, status}
@@ -81,7 +83,7 @@ module _ {S R Q : ℕ} {shadow table : List ℕ} {h : History} (stands : Stands 
 -- a line that is done with room sought: the place, and what its answer says of it
 pub record PlacedAt (S R n : ℕ) (blocks : List Block) (s : ℕ) (x : Exchange) : Type 0 where
   pub place : ℕ
-  pub value_is : value_of x ≡ some (granule * place)
+  pub value_is : value_of x ≡ Some (granule * place)
   pub row : length blocks < n
   pub room : RoomAt S R blocks s place
   pub lowest : (q : ℕ) → RoomAt S R blocks s q → place ≤ q
@@ -92,19 +94,19 @@ Left R Q h x = length (latest R Q h.released) + 1 - length (latest R Q (heard h 
 
 -- what a line that seeks something found, and what it said; and that no other line is answered 05 to 08
 pub data Finding (S n R Q : ℕ) (h : History) (x : Exchange) : Type 0 where
-  foreign : (a : ℕ) → (seeks x).block ≡ some a → status_of x ≡ some 7 → (Starts (held R Q h) a → ⊥)
+  foreign : (a : ℕ) → (seeks x).block ≡ Some a → status_of x ≡ Some 7 → (Starts (held R Q h) a → ⊥)
       → Finding S n R Q h x
-  twice : (a : ℕ) → (seeks x).block ≡ some a → status_of x ≡ some 8
+  twice : (a : ℕ) → (seeks x).block ≡ Some a → status_of x ≡ Some 8
       → Starts (latest R Q h.released) a → (Starts h.live a → ⊥) → Finding S n R Q h x
-  full : (s : ℕ) → (seeks x).room ≡ some s → status_of x ≡ some 5 → Theirs h.live (seeks x)
+  full : (s : ℕ) → (seeks x).room ≡ Some s → status_of x ≡ Some 5 → Theirs h.live (seeks x)
       → length (held R Q h) ≡ n → Finding S n R Q h x
-  nowhere : (s : ℕ) → (seeks x).room ≡ some s → status_of x ≡ some 6 → Theirs h.live (seeks x)
+  nowhere : (s : ℕ) → (seeks x).room ≡ Some s → status_of x ≡ Some 6 → Theirs h.live (seeks x)
       → length (held R Q h) < n → ((p : ℕ) → RoomAt S R (held R Q h) s p → ⊥) → Finding S n R Q h x
-  all_there : status_of x ≡ some 0 → Theirs h.live (seeks x)
-      → ((s : ℕ) → (seeks x).room ≡ some s → PlacedAt S R n (held R Q h) s x)
-      → ((a : ℕ) → seeks x ≡ record { room = none; block = some a } → value_of x ≡ some (Left R Q h x))
+  all_there : status_of x ≡ Some 0 → Theirs h.live (seeks x)
+      → ((s : ℕ) → (seeks x).room ≡ Some s → PlacedAt S R n (held R Q h) s x)
+      → ((a : ℕ) → seeks x ≡ record { room = None; block = Some a } → value_of x ≡ Some (Left R Q h x))
       → Finding S n R Q h x
-  none_sought : (number : ℕ) → status_of x ≡ some number → (number < 5) ⊎ (8 < number) → seeks x ≡ nothing_sought
+  none_sought : (number : ℕ) → status_of x ≡ Some number → (number < 5) ⊎ (8 < number) → seeks x ≡ nothing_sought
       → Finding S n R Q h x
 
 -- a block of one of two lists is a block of both together
@@ -118,32 +120,32 @@ starts_of : (xs ys : List Block) (a : ℕ) → Starts (xs ++ ys) a → Starts xs
 starts_of xs ys a s = ⊎_elim (λ m. inl (s.0, m, s.2)) (λ m. inr (s.0, m, s.2)) (Memᴰ.append_cases xs s.1)
 
 -- none is not some
-not_both : {o : Option ℕ} {s : ℕ} → o ≡ none → o ≡ some s → ⊥
-not_both {s = s} e f = none-ne-some s (sym e ∙ f)
+not_both : {o : Option ℕ} {s : ℕ} → o ≡ None → o ≡ Some s → ⊥
+not_both {s = s} e f = none-some s (sym e ∙ f)
 
 module _ {S n R Q : ℕ} {h : History} {x : Exchange} (m : Moment (Holds S n R Q) h x) where
   -- a line that the moment's line answers so
-  says_status : {acted : Acted} → act_line watcher m.st ≡ outcome acted → status_of x ≡ some (status acted.answer)
-  says_status e = m.status_is ∙ ap (λ acted. some (status acted.answer)) e
+  says_status : {acted : Acted} → act_line watcher m.st ≡ outcome acted → status_of x ≡ Some (status acted.answer)
+  says_status e = m.status_is ∙ ap (λ acted. Some (status acted.answer)) e
 
   says_value : {acted : Acted} → act_line watcher m.st ≡ outcome acted
-      → value_of x ≡ some (in_numbers acted.answer).value
-  says_value e = m.value_is ∙ ap (λ acted. some (in_numbers acted.answer).value) e
+      → value_of x ≡ Some (in_numbers acted.answer).value
+  says_value e = m.value_is ∙ ap (λ acted. Some (in_numbers acted.answer).value) e
 
   -- ---- a grant
 
-  module _ (s : ℕ) (asks_grant : asks x ≡ Grant s) where
+  module _ (s : ℕ) (asks_grant : asks x ≡ Ok (Grant s)) where
     granted_is : act_line watcher m.st ≡ outcome (grant R m.st.pool.shadow m.st.pool.table s)
     unfolding act
     granted_is =
-        acted_on m (Grant s) asks_grant
+        acted_on m (Ok (Grant s)) asks_grant
         ∙ ap (λ R'. outcome (grant R' m.st.pool.shadow m.st.pool.table s)) m.holds.redzone
 
-    seeks_room : (seeks x).room ≡ some (counted s)
+    seeks_room : (seeks x).room ≡ Some (counted s)
     unfolding seeks sought_by
     seeks_room = ap (λ frame. (sought_by frame).room) asks_grant
 
-    seeks_no_block : (seeks x).block ≡ none
+    seeks_no_block : (seeks x).block ≡ None
     unfolding seeks sought_by
     seeks_no_block = ap (λ frame. (sought_by frame).block) asks_grant
 
@@ -156,7 +158,7 @@ module _ {S n R Q : ℕ} {h : History} {x : Exchange} (m : Moment (Holds S n R Q
         let u : ℕ = granules (counted s) in
         let theirs : Theirs h.live (seeks x) = λ a e. absurd (not_both seeks_no_block e) in
         let count : length (held R Q h) ≡ in_use table = held_count stands in
-        let fewer : (i : ℕ) → empty_row table ≡ some i → length (held R Q h) < n =
+        let fewer : (i : ℕ) → empty_row table ≡ Some i → length (held R Q h) < n =
         λ i row.
         let l : Lowest (is_empty table) (rows table) 0 i = empty_row_some table i row in
         omega
@@ -187,30 +189,30 @@ module _ {S n R Q : ℕ} {h : History} {x : Exchange} (m : Moment (Holds S n R Q
 
   -- ---- a release
 
-  module _ (a : ℕ) (asks_release : asks x ≡ Release a) (above : a ≢ 0) where
+  module _ (a : ℕ) (asks_release : asks x ≡ Ok (Release a)) (above : a ≢ 0) where
     released_is : act_line watcher m.st ≡ outcome (release R Q m.st.pool.shadow m.st.pool.table a)
     unfolding act
     released_is =
-        acted_on m (Release a) asks_release
+        acted_on m (Ok (Release a)) asks_release
         ∙ ap (λ R'. outcome (release R' m.st.session.quarantine m.st.pool.shadow m.st.pool.table a))
         m.holds.redzone
         ∙ ap (λ Q'. outcome (release R Q' m.st.pool.shadow m.st.pool.table a)) m.holds.quarantine
 
-    seeks_alone : seeks x ≡ record { room = none; block = some a }
+    seeks_alone : seeks x ≡ record { room = None; block = Some a }
     unfolding seeks
     seeks_alone = ap sought_by asks_release ∙ release_seeks a above
 
-    seeks_block : (seeks x).block ≡ some a
+    seeks_block : (seeks x).block ≡ Some a
     seeks_block = ap (λ sought. sought.block) seeks_alone
 
     -- no block starts where no row does
-    none_live : row_at live m.st.pool.table a ≡ none → Starts h.live a → ⊥
+    none_live : row_at live m.st.pool.table a ≡ None → Starts h.live a → ⊥
     none_live e s =
         let row : RowOf m.st.pool.table live s.0 =
         m.holds.stands.standing.lives.row s.0 s.1 in
         row_at_none live m.st.pool.table a e row.0 row.1 row.2 (ap (λ y. y.address) row.3 ∙ s.2)
 
-    none_quarantined : row_at quarantined m.st.pool.table a ≡ none → Starts (latest R Q h.released) a → ⊥
+    none_quarantined : row_at quarantined m.st.pool.table a ≡ None → Starts (latest R Q h.released) a → ⊥
     none_quarantined e s =
         let row : RowOf m.st.pool.table quarantined s.0 =
         queue_row R m.st.pool.table (latest R Q h.released) m.holds.stands.queue s.0 s.1 in
@@ -218,7 +220,7 @@ module _ {S n R Q : ℕ} {h : History} {x : Exchange} (m : Moment (Holds S n R Q
         (ap (λ y. y.address) row.3 ∙ s.2)
 
     -- what is heard of a release that is done
-    heard_release : status_of x ≡ some 0 → (heard h x).released ≡ at a h.live ++ h.released
+    heard_release : status_of x ≡ Some 0 → (heard h x).released ≡ at a h.live ++ h.released
     unfolding heard happen happens seeks
     heard_release is_done =
         let value : ℕ = (in_numbers (act_line watcher m.st).answer).value in
@@ -230,13 +232,13 @@ module _ {S n R Q : ℕ} {h : History} {x : Exchange} (m : Moment (Holds S n R Q
     -- the number that left: each eviction leaves one fewer
     evicted_of : (i : ℕ) → StartsAt live m.st.pool.table a i
         → (release_row R Q (record { shadow = m.st.pool.shadow; table = m.st.pool.table }) i).answer
-        ≡ Done (length (latest R Q h.released) + 1 - length (latest R Q (at a h.live ++ h.released)))
+        ≡ Ok (length (latest R Q h.released) + 1 - length (latest R Q (at a h.live ++ h.released)))
     unfolding release_row
     evicted_of i found =
         let pool : Pool = record { shadow = m.st.pool.shadow; table = m.st.pool.table } in
         let entered : Queue R (quarantine_row pool i).table (block_of pool.table i ∷ latest R Q h.released) =
         queue_quarantine R pool (latest R Q h.released) i found.below found.has m.holds.stands.queue in
-        ap Done
+        ap Ok
         (omega (
           arith,
           settle_count R Q (quarantine_row pool i),
@@ -272,39 +274,39 @@ module _ {S n R Q : ℕ} {h : History} {x : Exchange} (m : Moment (Holds S n R Q
         (λ s seeks_s. absurd (not_both (ap (λ sought. sought.room) seeks_alone) seeks_s))
         (λ c alone.
         says_value is
-        ∙ ap (λ answer. some (in_numbers answer).value) (evicted_of i found)
-        ∙ ap (λ released. some (length blocks + 1 - length (latest R Q released)))
+        ∙ ap (λ answer. Some (in_numbers answer).value) (evicted_of i found)
+        ∙ ap (λ released. Some (length blocks + 1 - length (latest R Q released)))
         (sym (heard_release (says_status is)))))
         released_is
 
   -- ---- any line
 
   -- what seeks nothing is answered none of 05 to 08
-  of_nothing : (frame : Frame) (answer : Answer) → asks x ≡ frame → sought_by frame ≡ nothing_sought
+  of_nothing : (frame : Asked) (answer : Answer) → asks x ≡ frame → sought_by frame ≡ nothing_sought
       → (act_line watcher m.st).answer ≡ answer → (status answer < 5) ⊎ (8 < status answer) → Finding S n R Q h x
   unfolding seeks
   of_nothing frame answer e nothing is outside =
-      none_sought (status answer) (m.status_is ∙ ap (λ c. some (status c)) is) outside (ap sought_by e ∙ nothing)
+      none_sought (status answer) (m.status_is ∙ ap (λ c. Some (status c)) is) outside (ap sought_by e ∙ nothing)
 
-  of_access : (frame : Frame) (a k : ℕ) → asks x ≡ frame → sought_by frame ≡ nothing_sought
+  of_access : (frame : Asked) (a k : ℕ) → asks x ≡ frame → sought_by frame ≡ nothing_sought
       → (act_line watcher m.st).answer ≡ access m.st.pool.shadow a k → Finding S n R Q h x
   of_access frame a k e nothing is =
       of_nothing frame (access m.st.pool.shadow a k) e nothing is
       (access_number (λ number. (number < 5) ⊎ (8 < number)) (inl (omega arith)) (inr (omega arith))
       m.st.pool.shadow a k)
 
-  of_refused : (answer : Answer) → asks x ≡ Refused answer → (status answer < 5) ⊎ (8 < status answer)
+  of_refused : (why : Refusal) → asks x ≡ Err why → (status (Err why) < 5) ⊎ (8 < status (Err why))
       → Finding S n R Q h x
   unfolding act sought_by
-  of_refused answer e =
-      of_nothing (Refused answer) answer e refl (ap (λ acted. acted.answer) (acted_on m (Refused answer) e))
+  of_refused why e =
+      of_nothing (Err why) (Err why) e refl (ap (λ acted. acted.answer) (acted_on m (Err why) e))
 
   -- a release of address 0
-  at_zero : asks x ≡ Release 0
-      → act_line watcher m.st ≡ outcome (unchanged (Done 0) m.st.pool.shadow m.st.pool.table)
+  at_zero : asks x ≡ Ok (Release 0)
+      → act_line watcher m.st ≡ outcome (unchanged (Ok 0) m.st.pool.shadow m.st.pool.table)
   unfolding act
   at_zero e =
-      acted_on m (Release 0) e
+      acted_on m (Ok (Release 0)) e
       ∙ ap outcome
       (release_nothing m.st.session.redzone m.st.session.quarantine m.st.pool.shadow
       m.st.pool.table)
@@ -320,19 +322,19 @@ module _ {S n R Q : ℕ} {h : History} {x : Exchange} (m : Moment (Holds S n R Q
       (λ a fits e.
       elim (ℕ_discrete a 0) [
         | yes zero ↦
-            of_nothing (Release 0) (Done 0) (e ∙ ap Release zero) release_seeks_nothing
-            (ap (λ acted. acted.answer) (at_zero (e ∙ ap Release zero)))
+            of_nothing (Ok (Release 0)) (Ok 0) (e ∙ ap (λ c. Ok (Release c)) zero) release_seeks_nothing
+            (ap (λ acted. acted.answer) (at_zero (e ∙ ap (λ c. Ok (Release c)) zero)))
             (inl (omega arith))
         | no above ↦ of_release a e above
       ])
-      (λ a k fits fits' e. of_access (Read a k) a k e refl (ap (λ acted. acted.answer) (acted_on m (Read a k) e)))
-      (λ a k fits fits' e. of_access (Write a k) a k e refl (ap (λ acted. acted.answer) (acted_on m (Write a k) e)))
+      (λ a k fits fits' e. of_access (Ok (Read a k)) a k e refl (ap (λ acted. acted.answer) (acted_on m (Ok (Read a k)) e)))
+      (λ a k fits fits' e. of_access (Ok (Write a k)) a k e refl (ap (λ acted. acted.answer) (acted_on m (Ok (Write a k)) e)))
       (length x.line) x.line refl
 
 -- ---- read off it
 
 -- an answer has one number
-never : {o : Option ℕ} {s t : ℕ} {A : Type 0} → o ≡ some s → s ≢ t → o ≡ some t → A
+never : {o : Option ℕ} {s t : ℕ} {A : Type 0} → o ≡ Some s → s ≢ t → o ≡ Some t → A
 never is other e = absurd (other (one_status is e))
 
 outside_not : {number k : ℕ} → (number < 5) ⊎ (8 < number) → 5 ≤ k → k ≤ 8 → number ≢ k
@@ -340,8 +342,8 @@ outside_not outside from upto e = ⊎_elim {C = ⊥} (λ low. omega arith) (λ h
 
 -- the block that is granted is at the place found
 placed_lowest : {S R n : ℕ} {blocks : List Block} {s : ℕ} {x : Exchange} → PlacedAt S R n blocks s x
-    → status_of x ≡ some 0
-    → (seeks x).room ≡ some s → LowestOf S R blocks s x
+    → status_of x ≡ Some 0
+    → (seeks x).room ≡ Some s → LowestOf S R blocks s x
 placed_lowest {s = s} {x = x} p is e = record {
   place = p.place;
   granted =
@@ -363,7 +365,7 @@ module _ (S n R Q : ℕ) (h : History) (x : Exchange) where
   Quarantined = latest R Q h.released
 
   -- neither, where the block that is sought is live
-  released_theirs : {s : ℕ} → status_of x ≡ some s → s ≢ 7 → s ≢ 8 → Theirs h.live (seeks x)
+  released_theirs : {s : ℕ} → status_of x ≡ Some s → s ≢ 7 → s ≢ 8 → Theirs h.live (seeks x)
       → ReleasedBy h.live Quarantined (seeks x) x
   released_theirs is not_7 not_8 theirs = record {
     foreign = (never is not_7, λ t. absurd (t.2 (starts_left h.live Quarantined t.0 (theirs t.0 t.1))));
@@ -398,14 +400,14 @@ module _ (S n R Q : ℕ) (h : History) (x : Exchange) where
       (λ a e. absurd (not_both (ap (λ sought. sought.block) nothing) e))
 
   -- a block that is not held is not live
-  foreign_not : (a : ℕ) → (seeks x).block ≡ some a → (Starts (held R Q h) a → ⊥) → Theirs h.live (seeks x) → ⊥
+  foreign_not : (a : ℕ) → (seeks x).block ≡ Some a → (Starts (held R Q h) a → ⊥) → Theirs h.live (seeks x) → ⊥
   unfolding held
   foreign_not a e not_held theirs = not_held (starts_left h.live Quarantined a (theirs a e))
 
   -- 05 and 06
 
   -- neither, where the block that is sought is not live
-  placed_not : {k : ℕ} → status_of x ≡ some k → 7 ≤ k → (Theirs h.live (seeks x) → ⊥)
+  placed_not : {k : ℕ} → status_of x ≡ Some k → 7 ≤ k → (Theirs h.live (seeks x) → ⊥)
       → PlacedBy S R n h.live (held R Q h) (seeks x) x
   placed_not is from not_theirs = record {
     no_row = (never is (λ f. omega arith), λ t. absurd (not_theirs t.0));
@@ -435,7 +437,7 @@ module _ (S n R Q : ℕ) (h : History) (x : Exchange) where
     lowest = λ _ s e. placed_lowest (placed s e) is e;
   }
   placed_as (none_sought number is outside nothing) =
-      let no_room : (s : ℕ) → (seeks x).room ≡ some s → ⊥ = λ s. not_both (ap (λ sought. sought.room) nothing) in
+      let no_room : (s : ℕ) → (seeks x).room ≡ Some s → ⊥ = λ s. not_both (ap (λ sought. sought.room) nothing) in
       record {
         no_row =
             (never is (outside_not outside (omega arith) (omega arith)), λ t. absurd (no_room t.1.0 t.1.1));
@@ -459,8 +461,8 @@ module _ (S n R Q : ℕ) (h : History) (x : Exchange) where
   done_as (none_sought number is outside nothing) something = absurd (something nothing)
 
   -- how many left
-  pub left_as : Finding S n R Q h x → (a : ℕ) → seeks x ≡ record { room = none; block = some a } → status_of x ≡ some 0
-      → value_of x ≡ some (Left R Q h x)
+  pub left_as : Finding S n R Q h x → (a : ℕ) → seeks x ≡ record { room = None; block = Some a } → status_of x ≡ Some 0
+      → value_of x ≡ Some (Left R Q h x)
   left_as (foreign a e is not_held) c alone is_done = never is (λ f. omega arith) is_done
   left_as (twice a e is in_quarantine not_live) c alone is_done = never is (λ f. omega arith) is_done
   left_as (full s e is theirs no_row) c alone is_done = never is (λ f. omega arith) is_done
@@ -483,8 +485,8 @@ pub releases_nothing : ReleasesNothing
 unfolding status in_numbers seeks did grants_at releases_at
 releases_nothing r before x line asks_nothing =
     let m : Moment (HoldsOf r) (history r before) x = line_moment r before x line in
-    let is_done : status_of x ≡ some 0 = says_status m (at_zero m asks_nothing) in
-    let says_nothing : value_of x ≡ some 0 = says_value m (at_zero m asks_nothing) in
+    let is_done : status_of x ≡ Some 0 = says_status m (at_zero m asks_nothing) in
+    let says_nothing : value_of x ≡ Some 0 = says_value m (at_zero m asks_nothing) in
     record {
       done = is_done;
       value = says_nothing;

@@ -7,7 +7,7 @@ use mathlib.Core.List.Memᴰ
 use mathlib.Core.List.{List, [], ◌∷◌}
 use lib.Dec.{eqb}
 use borrow.Author.Tests.{eqb-true}
-use Rattle.rules.specs.declared.CallAnswer.{CallAnswer}
+use Rattle.rules.specs.Answers.{CallAnswer}
 use Rattle.rules.specs.declared.Region.{Region}
 use Rattle.rules.specs.declared.Region.TheVariants.{Nowhere, LowMem, LowShadow, ShadowGap, HighShadow, HighMem}
 use Rattle.rules.specs.Shadow.{first_bad}

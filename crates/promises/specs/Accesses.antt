@@ -1,7 +1,7 @@
 -- Demand 3, history: a read or write is reported exactly when it touches a byte in no block granted and not yet
 -- released.
 use Rattle.std.specs.Prelude.{ℕ, ◌+◌, ◌*◌, ◌≤◌, ◌<◌, ◌%◌, ◌≡◌, ◌≢◌, ◌↔◌, ◌⊎◌, true, false, List, ◌∷◌, ◌++◌}
-use Rattle.std.proofs.Math.Option.{some}
+use Rattle.std.specs.Prelude.{Some, Ok}
 use Rattle.rules.specs.declared.Frame.TheVariants.{Read, Write}
 use Rattle.rules.specs.Limits.{granule}
 use Rattle.promises.specs.History.{Exchange, asks, status_of, kind_of, value_of, Block, has_byte, lies_in}
@@ -11,7 +11,7 @@ use Rattle.promises.specs.Rows.{◌∈◌, past}
 
 -- the line reads or writes n bytes at a
 abbrev pub Touches : Exchange → ℕ → ℕ → Type 0
-Touches x a n = (asks x ≡ Read a n) ⊎ (asks x ≡ Write a n)
+Touches x a n = (asks x ≡ Ok (Read a n)) ⊎ (asks x ≡ Ok (Write a n))
 
 -- b is one of the n bytes at a, and lies in none of the blocks
 pub record Stray (blocks : List Block) (a n b : ℕ) : Type 0 where
@@ -21,9 +21,9 @@ pub record Stray (blocks : List Block) (a n b : ℕ) : Type 0 where
 
 -- answered 09 exactly when one of its bytes lies in none of the blocks, and else 00 with the value 0
 pub record ReportedBy (blocks : List Block) (a n : ℕ) (x : Exchange) : Type 0 where
-  pub reported : (status_of x ≡ some 9) ↔ ((b : ℕ) × Stray blocks a n b)
-  pub passed : (status_of x ≡ some 0) ↔ (((b : ℕ) × Stray blocks a n b) → ⊥)
-  pub passed_value : status_of x ≡ some 0 → value_of x ≡ some 0
+  pub reported : (status_of x ≡ Some 9) ↔ ((b : ℕ) × Stray blocks a n b)
+  pub passed : (status_of x ≡ Some 0) ↔ (((b : ℕ) × Stray blocks a n b) → ⊥)
+  pub passed_value : status_of x ≡ Some 0 → value_of x ≡ Some 0
 
 -- of every line, by the blocks granted and not yet released by the lines before
 abbrev pub Reported : Type 0
@@ -33,13 +33,13 @@ Reported = (r : Replay) (before : List Exchange) (x : Exchange) → Line r befor
 -- the value is the least such byte
 pub record First (blocks : List Block) (a n : ℕ) (x : Exchange) : Type 0 where
   pub byte : ℕ
-  pub value : value_of x ≡ some byte
+  pub value : value_of x ≡ Some byte
   pub stray : Stray blocks a n byte
   pub least : (c : ℕ) → Stray blocks a n c → byte ≤ c
 
 abbrev pub FirstBadByte : Type 0
 FirstBadByte = (r : Replay) (before : List Exchange) (x : Exchange) → Line r before x → (a n : ℕ) → Touches x a n
-    → status_of x ≡ some 9 → First (live_at r before) a n x
+    → status_of x ≡ Some 9 → First (live_at r before) a n x
 
 -- the kind of a bad byte, by where it lies: ff outside the arena, fd in the granules of a quarantined block, the bytes
 -- of a live block's last granule where it is past that block's last byte, and fa everywhere else
@@ -51,8 +51,8 @@ pub record KindBy (S : ℕ) (live quarantine : List Block) (b k : ℕ) : Type 0 
 
 abbrev pub Kinds : Type 0
 Kinds = (r : Replay) (before : List Exchange) (x : Exchange) → Line r before x → (a n : ℕ) → Touches x a n
-    → status_of x ≡ some 9 → (b : ℕ) → value_of x ≡ some b
-    → (k : ℕ) × (kind_of x ≡ some k) × KindBy (session r).granules (live_at r before) (quarantine_at r before) b k
+    → status_of x ≡ Some 9 → (b : ℕ) → value_of x ≡ Some b
+    → (k : ℕ) × (kind_of x ≡ Some k) × KindBy (session r).granules (live_at r before) (quarantine_at r before) b k
 
 -- bytes outside the arena lie in no block
 abbrev pub OutsideNowhere : Type 0
@@ -63,7 +63,7 @@ abbrev pub TwoBlocks : Type 0
 TwoBlocks = (r : Replay) (before : List Exchange) (x : Exchange) → Line r before x → (a n : ℕ) → Touches x a n
     → (y z : Block) → y ∈ held_at r before → z ∈ held_at r before → y ≢ z
     → (b c : ℕ) → a ≤ b → b < a + n → has_byte y b ≡ true → a ≤ c → c < a + n → has_byte z c ≡ true
-    → status_of x ≡ some 9
+    → status_of x ≡ Some 9
 
 -- the line grants byte b
 abbrev pub Grants : Exchange → ℕ → Type 0
@@ -74,4 +74,4 @@ abbrev pub UntilGranted : Type 0
 UntilGranted = (r : Replay) (before between : List Exchange) (gone x : Exchange) → Line r (before ++ (gone ∷ between)) x
     → (y : Block) → y ∈ live_at r before → Released y.address ∈ events gone
     → (b : ℕ) → has_byte y b ≡ true → ((z : Exchange) → z ∈ between → Grants z b → ⊥)
-    → (a n : ℕ) → Touches x a n → a ≤ b → b < a + n → status_of x ≡ some 9
+    → (a n : ℕ) → Touches x a n → a ≤ b → b < a + n → status_of x ≡ Some 9

@@ -1,8 +1,9 @@
 -- Direct calls: each is the line of its frame. So what is promised of texts holds of direct calls too, made while no
 -- line is unfinished.
 use Rattle.std.specs.Prelude.{ℕ, ◌^◌, ◌<◌, ◌≡◌, List, []}
-use Rattle.rules.specs.declared.CallAnswer.{CallAnswer}
-use Rattle.rules.specs.declared.CallAnswer.TheVariants.{Answered, BadSession}
+use Rattle.std.specs.Prelude.{Ok, Err}
+use Rattle.rules.specs.declared.CallRefusal.TheVariants.{BadSession}
+use Rattle.rules.specs.Answers.{CallAnswer}
 use Rattle.rules.specs.Limits.{kind_grant, kind_release, kind_read, kind_write}
 use Rattle.rules.specs.Release.{Pool}
 use Rattle.rules.specs.Frames.{fields, answer_line, line_of}
@@ -13,8 +14,8 @@ use Rattle.promises.specs.Replay.{Idle}
 
 -- a call's answer as a line of a report; 24 writes no report
 abbrev pub as_report : CallAnswer → List ℕ
-as_report (Answered answer) = answer_line answer
-as_report BadSession = []
+as_report (Ok answer) = answer_line answer
+as_report (Err BadSession) = []
 
 -- the state that a call leaves, and its answer as a line of a report
 abbrev pub told_as : State Pool → Called → Ran Pool

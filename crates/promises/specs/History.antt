@@ -1,14 +1,13 @@
 -- What lines seek, and what they granted and released: read off the lines of a trace and the lines of its report, and
 -- off nothing else.
 use Rattle.std.specs.Prelude.{ℕ, ◌+◌, ◌-◌, Bool, true, false, ◌&&◌, ◌||◌, List, [], ◌∷◌, ◌++◌, length, eqb, leb, ltb}
-use Rattle.std.proofs.Math.Option.{Option, none, some}
-use Rattle.rules.specs.declared.Frame.{Frame}
-use Rattle.rules.specs.declared.Frame.TheVariants.{Grant, Release, Read, Write, Refused}
+use Rattle.std.specs.Prelude.{Option, Some, None, Err, Ok}
+use Rattle.rules.specs.declared.Frame.TheVariants.{Grant, Release, Read, Write}
 use Rattle.rules.specs.Limits.{line_feed, answer_fields, answer_status, answer_kind, answer_value}
 use Rattle.rules.specs.Grant.{counted}
 use Rattle.rules.specs.Release.{weight}
 use Rattle.rules.specs.Hex.{read_field}
-use Rattle.rules.specs.Frames.{frame_of_line}
+use Rattle.rules.specs.Frames.{Asked, frame_of_line}
 
 -- ---- lines and their answers
 
@@ -37,7 +36,7 @@ unfoldable pub exchanges : List ℕ → List ℕ → List Exchange
 exchanges text report = paired (lines text) (lines report)
 
 -- what the line asks
-unfoldable pub asks : Exchange → Frame
+unfoldable pub asks : Exchange → Asked
 asks x = frame_of_line (length x.line) x.line
 
 -- what the answer says, field by field
@@ -86,20 +85,20 @@ pub record Sought : Type 0 where
   pub block : Option ℕ
 
 abbrev pub nothing_sought : Sought
-nothing_sought = record { room = none; block = none }
+nothing_sought = record { room = None; block = None }
 
 -- at address 0 there is no block to release
 unfoldable pub block_at : ℕ → Option ℕ
-block_at a = elim (eqb a 0) [ true ↦ none | false ↦ some a ]
+block_at a = elim (eqb a 0) [ true ↦ None | false ↦ Some a ]
 
 -- a grant seeks room for as many bytes as it asks for, a release the block at its address; reads, writes and bad lines
 -- seek nothing
-unfoldable pub sought_by : Frame → Sought
-sought_by (Grant s) = record { room = some (counted s); block = none }
-sought_by (Release a) = record { room = none; block = block_at a }
-sought_by (Read a n) = nothing_sought
-sought_by (Write a n) = nothing_sought
-sought_by (Refused answer) = nothing_sought
+unfoldable pub sought_by : Asked → Sought
+sought_by (Ok (Grant s)) = record { room = Some (counted s); block = None }
+sought_by (Ok (Release a)) = record { room = None; block = block_at a }
+sought_by (Ok (Read a n)) = nothing_sought
+sought_by (Ok (Write a n)) = nothing_sought
+sought_by (Err refusal) = nothing_sought
 
 unfoldable pub seeks : Exchange → Sought
 seeks x = sought_by (asks x)
@@ -112,12 +111,12 @@ pub data Event : Type 0 where
   Released : ℕ → Event
 
 unfoldable pub grants_at : ℕ → Option ℕ → List Event
-grants_at value none = []
-grants_at value (some s) = Granted (block value s) ∷ []
+grants_at value None = []
+grants_at value (Some s) = Granted (block value s) ∷ []
 
 unfoldable pub releases_at : Option ℕ → List Event
-releases_at none = []
-releases_at (some a) = Released a ∷ []
+releases_at None = []
+releases_at (Some a) = Released a ∷ []
 
 -- a line that is done did what it seeks, in this order: where it seeks room, it granted so many bytes at the value
 -- answered; where it seeks a block, it released that block
@@ -128,9 +127,9 @@ did sought value = grants_at value sought.room ++ releases_at sought.block
 unfoldable pub events : Exchange → List Event
 events x =
     elim (status_of x) [
-      | none ↦ []
-      | some status ↦
-          elim (eqb status 0) [ false ↦ [] | true ↦ elim (value_of x) [ none ↦ [] | some value ↦ did (seeks x) value ] ]
+      | None ↦ []
+      | Some status ↦
+          elim (eqb status 0) [ false ↦ [] | true ↦ elim (value_of x) [ None ↦ [] | Some value ↦ did (seeks x) value ] ]
     ]
 
 -- ---- the history

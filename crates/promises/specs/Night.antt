@@ -1,8 +1,8 @@
 -- The paper's night, seen by these definitions: what its sixteen lines and answers granted and released, the shadow
 -- that its rows draw, chains of calls over its text; and both sides of a limit. Each is computed.
 use Rattle.std.specs.Prelude.{ℕ, zero, suc, ◌+◌, ◌*◌, ◌≡◌, refl, true, false, List, [], ◌∷◌, drop, replicate}
+use Rattle.std.specs.Prelude.{Some, None}
 use Prim.Native.String.{String}
-use Rattle.std.proofs.Math.Option.{none, some}
 use Rattle.rules.specs.Limits.{granule, kind_grant}
 use Rattle.rules.specs.Frames.{fields, line_of}
 use Rattle.rules.specs.Feed.{run}
@@ -40,15 +40,15 @@ night_events = (refl, refl, refl, refl)
 
 -- what they sought; and a release of address 0 seeks nothing
 pub night_seeks :
-    (seeks (exchange "010000000d00000000" "000000000010") ≡ record { room = some 13; block = none })
-    × (seeks (exchange "020000001000000000" "080000000000") ≡ record { room = none; block = some 0x10 })
+    (seeks (exchange "010000000d00000000" "000000000010") ≡ record { room = Some 13; block = None })
+    × (seeks (exchange "020000001000000000" "080000000000") ≡ record { room = None; block = Some 0x10 })
     × (seeks (exchange "030000001000000001" "09fd00000010") ≡ nothing_sought)
     × (seeks (exchange "020000000000000000" "000000000000") ≡ nothing_sought)
 unfolding by_the_rules by_its_events
 night_seeks = (refl, refl, refl, refl)
 
 -- a line that seeks both grants first: the block that it releases is still held then
-pub grant_and_release : did (record { room = some 8; block = some 0x10 }) 0x30 ≡ Granted
+pub grant_and_release : did (record { room = Some 8; block = Some 0x10 }) 0x30 ≡ Granted
     (block 0x30 8) ∷ Released 0x10 ∷ []
 unfolding by_its_events
 grant_and_release = refl

@@ -1,10 +1,9 @@
 -- Demand 2: shadow bytes, verdicts, places and both address maps, as published.
 use Rattle.std.specs.Prelude.{ℕ, ◌+◌, ◌*◌, ◌/◌, ◌%◌, ◌≤◌, ◌<◌, ◌≡◌, ◌↔◌, true, List, length, get_or, replicate}
-use Rattle.std.proofs.Math.Option.{none, some}
-use Rattle.rules.specs.declared.Verdict.TheVariants.{Good, Bad}
+use Rattle.std.specs.Prelude.{Some, None}
 use Rattle.rules.specs.declared.Map.{Map}
 use Rattle.rules.specs.Table.{start, size}
-use Rattle.rules.specs.Shadow.{leading, negative, addressable, kind, judge, AllGood, FirstBad}
+use Rattle.rules.specs.Shadow.{leading, negative, addressable, kind, judge, good, bad, AllGood, FirstBad}
 use Rattle.rules.specs.Grant.{granules, place, granted, Fits, Place}
 use Rattle.rules.specs.Release.{Pool, evict_row, quarantine_row}
 use Rattle.rules.specs.Calls.{open_with}
@@ -42,8 +41,8 @@ pub record ShadowBytes : Type 0 where
 pub record Verdicts : Type 0 where
   pub byte : (shadow : List ℕ) (b : ℕ) → (addressable shadow b ≡ true)
       ↔ ((b < 8 * length shadow) × (b % 8 < leading (get_or shadow (b / 8) 0)))
-  pub good : (shadow : List ℕ) (a n : ℕ) → (judge shadow a n ≡ Good) ↔ AllGood shadow a (a + n)
-  pub bad : (shadow : List ℕ) (a n k b : ℕ) → (judge shadow a n ≡ Bad k b)
+  pub good : (shadow : List ℕ) (a n : ℕ) → (judge shadow a n ≡ good) ↔ AllGood shadow a (a + n)
+  pub bad : (shadow : List ℕ) (a n k b : ℕ) → (judge shadow a n ≡ bad k b)
       ↔ (FirstBad shadow a n b × (k ≡ kind shadow b))
   pub kind_inside : (shadow : List ℕ) (b : ℕ) → b < 8 * length shadow → kind shadow b ≡ get_or shadow (b / 8) 0
   pub kind_outside : (shadow : List ℕ) (b : ℕ) → 8 * length shadow ≤ b → kind shadow b ≡ 0xff
@@ -52,8 +51,8 @@ pub record Verdicts : Type 0 where
 
 -- the lowest start with R granules of fa on both sides, and none exactly when there is none
 pub record Places : Type 0 where
-  pub lowest : (shadow : List ℕ) (R u p : ℕ) → (place shadow R u ≡ some p) ↔ Place shadow R u p
-  pub nowhere : (shadow : List ℕ) (R u : ℕ) → (place shadow R u ≡ none) ↔ ((p : ℕ) → Fits shadow R u p → ⊥)
+  pub lowest : (shadow : List ℕ) (R u p : ℕ) → (place shadow R u ≡ Some p) ↔ Place shadow R u p
+  pub nowhere : (shadow : List ℕ) (R u : ℕ) → (place shadow R u ≡ None) ↔ ((p : ℕ) → Fits shadow R u p → ⊥)
 
 -- ---- the address maps
 

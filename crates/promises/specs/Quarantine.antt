@@ -1,6 +1,6 @@
 -- Demand 3: held blocks stay a redzone apart, and what is in quarantine is not granted again.
 use Rattle.std.specs.Prelude.{ℕ, ◌+◌, ◌-◌, ◌≤◌, ◌<◌, ◌≡◌, ◌≢◌, true, false, List, [], ◌∷◌, ◌++◌, length, take}
-use Rattle.std.proofs.Math.Option.{none, some}
+use Rattle.std.specs.Prelude.{Some, None}
 use Rattle.rules.specs.Limits.{empty}
 use Rattle.rules.specs.Table.{state, row_of}
 use Rattle.rules.specs.Grant.{grant}
@@ -52,5 +52,5 @@ NeverEvicts = (R : ℕ) (shadow table : List ℕ) (s j : ℕ) → state table j 
 -- one released, less those that are
 abbrev pub Evicted : Type 0
 Evicted = (r : Replay) (before : List Exchange) (x : Exchange) → Line r before x
-    → (a : ℕ) → seeks x ≡ record { room = none; block = some a } → status_of x ≡ some 0
-    → value_of x ≡ some (length (quarantine_at r before) + 1 - length (quarantine_at r (before ++ (x ∷ []))))
+    → (a : ℕ) → seeks x ≡ record { room = None; block = Some a } → status_of x ≡ Some 0
+    → value_of x ≡ Some (length (quarantine_at r before) + 1 - length (quarantine_at r (before ++ (x ∷ []))))

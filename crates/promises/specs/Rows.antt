@@ -1,7 +1,7 @@
 -- The blocks that the table holds, how far apart blocks are, and the shadow that a table draws.
 use Rattle.std.specs.Prelude.{ℕ, zero, suc, ◌+◌, ◌-◌, ◌*◌, ◌≤◌, ◌<◌, ◌≡◌, ◌≢◌, ◌⊎◌, Bool, true, false, ◌&&◌, ◌||◌}
 use Rattle.std.specs.Prelude.{get_or, eqb, leb, ltb}
-use Rattle.std.proofs.Math.Option.{none, some}
+use Rattle.std.specs.Prelude.{Some, None}
 use mathlib.Core.List.{List, [], ◌∷◌, Memᴰ}
 use Rattle.rules.specs.Limits.{granule, redzone_byte, released_byte, live, quarantined}
 use Rattle.rules.specs.Lowest.{lowest, total}
@@ -83,7 +83,7 @@ painted table g i =
 
 -- and fa everywhere else
 unfoldable pub drawn_byte : List ℕ → ℕ → ℕ
-drawn_byte table g = elim (lowest (covers table g) (rows table) 0) [ none ↦ redzone_byte | some i ↦ painted table g i ]
+drawn_byte table g = elim (lowest (covers table g) (rows table) 0) [ None ↦ redzone_byte | Some i ↦ painted table g i ]
 
 -- the n shadow bytes from granule g on
 unfoldable pub drawn : List ℕ → ℕ → ℕ → List ℕ

@@ -1,7 +1,7 @@
 -- What a line seeks, and when it is there: of every line, the exact conditions of 07 and 08, then of 05 and 06, in the
 -- paper's order, and of 00; and the place of a grant.
 use Rattle.std.specs.Prelude.{ℕ, ◌*◌, ◌≤◌, ◌<◌, ◌≡◌, ◌≢◌, ◌↔◌, List, [], ◌++◌, length}
-use Rattle.std.proofs.Math.Option.{some}
+use Rattle.std.specs.Prelude.{Some, Ok}
 use Rattle.rules.specs.declared.Frame.TheVariants.{Release}
 use Rattle.rules.specs.Limits.{granule}
 use Rattle.promises.specs.History.{Exchange, asks, status_of, value_of, Block, block}
@@ -11,12 +11,12 @@ use Rattle.promises.specs.Replay.{Replay, session, Line, live_at, quarantine_at,
 
 -- the block that it seeks, if it seeks one, is live
 abbrev pub Theirs : List Block → Sought → Type 0
-Theirs live sought = (a : ℕ) → sought.block ≡ some a → Starts live a
+Theirs live sought = (a : ℕ) → sought.block ≡ Some a → Starts live a
 
 -- 07 exactly when it seeks a block and no held one starts there, 08 exactly when a quarantined one does and no live one
 pub record ReleasedBy (live quarantine : List Block) (sought : Sought) (x : Exchange) : Type 0 where
-  pub foreign : (status_of x ≡ some 7) ↔ ((a : ℕ) × (sought.block ≡ some a) × (Starts (live ++ quarantine) a → ⊥))
-  pub twice : (status_of x ≡ some 8) ↔ ((a : ℕ) × (sought.block ≡ some a) × Starts quarantine a × (Starts live a → ⊥))
+  pub foreign : (status_of x ≡ Some 7) ↔ ((a : ℕ) × (sought.block ≡ Some a) × (Starts (live ++ quarantine) a → ⊥))
+  pub twice : (status_of x ≡ Some 8) ↔ ((a : ℕ) × (sought.block ≡ Some a) × Starts quarantine a × (Starts live a → ⊥))
 
 abbrev pub Releases : Type 0
 Releases = (r : Replay) (before : List Exchange) (x : Exchange) → Line r before x
@@ -31,19 +31,19 @@ pub record LowestOf (S R : ℕ) (blocks : List Block) (s : ℕ) (x : Exchange) :
   pub place : ℕ
   pub granted : Granted (block (granule * place) s) ∈ events x
   pub only : (y : Block) → Granted y ∈ events x → y ≡ block (granule * place) s
-  pub value : value_of x ≡ some (granule * place)
+  pub value : value_of x ≡ Some (granule * place)
   pub room : RoomAt S R blocks s place
   pub lowest : (q : ℕ) → RoomAt S R blocks s q → place ≤ q
 
 -- where the block that it seeks, if any, is live: 05 exactly when it seeks room and no row is empty, that is when as
 -- many blocks are held as there are rows; 06 exactly when it seeks room, a row is empty and there is no place
 pub record PlacedBy (S R rows : ℕ) (live blocks : List Block) (sought : Sought) (x : Exchange) : Type 0 where
-  pub no_row : (status_of x ≡ some 5)
-      ↔ (Theirs live sought × ((s : ℕ) × (sought.room ≡ some s) × (length blocks ≡ rows)))
-  pub no_place : (status_of x ≡ some 6)
+  pub no_row : (status_of x ≡ Some 5)
+      ↔ (Theirs live sought × ((s : ℕ) × (sought.room ≡ Some s) × (length blocks ≡ rows)))
+  pub no_place : (status_of x ≡ Some 6)
       ↔ (Theirs live sought
-      × ((s : ℕ) × (sought.room ≡ some s) × (length blocks < rows) × ((p : ℕ) → RoomAt S R blocks s p → ⊥)))
-  pub lowest : status_of x ≡ some 0 → (s : ℕ) → sought.room ≡ some s → LowestOf S R blocks s x
+      × ((s : ℕ) × (sought.room ≡ Some s) × (length blocks < rows) × ((p : ℕ) → RoomAt S R blocks s p → ⊥)))
+  pub lowest : status_of x ≡ Some 0 → (s : ℕ) → sought.room ≡ Some s → LowestOf S R blocks s x
 
 abbrev pub Placement : Type 0
 Placement = (r : Replay) (before : List Exchange) (x : Exchange) → Line r before x
@@ -53,9 +53,9 @@ Placement = (r : Replay) (before : List Exchange) (x : Exchange) → Line r befo
 -- and a line that seeks something is done exactly when all that it seeks is there
 abbrev pub DoneBy : ℕ → ℕ → ℕ → List Block → List Block → Sought → Exchange → Type 0
 DoneBy S R rows live blocks sought x =
-    (status_of x ≡ some 0)
+    (status_of x ≡ Some 0)
     ↔ (Theirs live sought
-    × ((s : ℕ) → sought.room ≡ some s → (length blocks < rows) × ((p : ℕ) × RoomAt S R blocks s p)))
+    × ((s : ℕ) → sought.room ≡ Some s → (length blocks < rows) × ((p : ℕ) × RoomAt S R blocks s p)))
 
 abbrev pub AllSought : Type 0
 AllSought = (r : Replay) (before : List Exchange) (x : Exchange) → Line r before x → seeks x ≢ nothing_sought
@@ -64,10 +64,10 @@ AllSought = (r : Replay) (before : List Exchange) (x : Exchange) → Line r befo
 
 -- a release of address 0 seeks nothing: it is done, with the value 0, and nothing happened
 pub record NothingBy (x : Exchange) : Type 0 where
-  pub done : status_of x ≡ some 0
-  pub value : value_of x ≡ some 0
+  pub done : status_of x ≡ Some 0
+  pub value : value_of x ≡ Some 0
   pub none_happened : events x ≡ []
 
 abbrev pub ReleasesNothing : Type 0
 ReleasesNothing = (r : Replay) (before : List Exchange) (x : Exchange) → Line r before x
-    → asks x ≡ Release 0 → NothingBy x
+    → asks x ≡ Ok (Release 0) → NothingBy x
