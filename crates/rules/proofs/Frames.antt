@@ -62,7 +62,7 @@ unfolding with_zero
 with_zero_not B frame above = if_false _ _ (ne_eqb B 0 above)
 
 -- by B, and by the kind: what each of the kinds asks, and none of them
-pub by_zero {ℓ} : (B : ℕ) (frame : Frame) (P : Asked → Type ℓ) → P (Ok frame) → (B ≢ 0 → P ((Err NotZero)))
+pub by_zero {ℓ} : (B : ℕ) (frame : Frame) (P : Asked → Type ℓ) → P (Ok frame) → (B ≢ 0 → P (Err NotZero))
     → P (with_zero B frame)
 by_zero B frame P zeroed not_zero =
     elim (ℕ_discrete B 0) [
@@ -75,7 +75,7 @@ pub by_kind {ℓ} : (kind A B : ℕ) (P : Asked → Type ℓ)
     → (kind ≡ kind_release → P (with_zero B (Release A)))
     → (kind ≡ kind_read → P (Ok (Read A B)))
     → (kind ≡ kind_write → P (Ok (Write A B)))
-    → (kind ≢ kind_grant → kind ≢ kind_release → kind ≢ kind_read → kind ≢ kind_write → P ((Err BadKind)))
+    → (kind ≢ kind_grant → kind ≢ kind_release → kind ≢ kind_read → kind ≢ kind_write → P (Err BadKind))
     → P (frame (fields kind A B))
 by_kind kind A B P grants releases reads writes other =
     elim (ℕ_discrete kind kind_grant) [

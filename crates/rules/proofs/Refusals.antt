@@ -109,8 +109,8 @@ refusal (Err why) = status (Err why)
 -- what a frame is, by its kind and B
 by_frame : (kind A B : ℕ) (P : Asked → Type 0)
     → ((k : Asked) → refusal k ≡ 0 → P k)
-    → (kind ≢ kind_grant → kind ≢ kind_release → kind ≢ kind_read → kind ≢ kind_write → P ((Err BadKind)))
-    → (B ≢ 0 → kind_grant ≤ kind → kind ≤ kind_release → P ((Err NotZero))) → P (frame (fields kind A B))
+    → (kind ≢ kind_grant → kind ≢ kind_release → kind ≢ kind_read → kind ≢ kind_write → P (Err BadKind))
+    → (B ≢ 0 → kind_grant ≤ kind → kind ≤ kind_release → P (Err NotZero)) → P (frame (fields kind A B))
 unfolding refusal
 by_frame kind A B P asked other not_zero =
     by_kind kind A B P
