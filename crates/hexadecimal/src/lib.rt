@@ -30,42 +30,42 @@ fn digit_value(byte: u8) -> u8
 }
 
 // The number that at most 16 digits say, which therefore fits 64 bits.
+#[tactic(auto, using(crate::proofs::Digits::reading))]
 pub fn number(digits: &[u8]) -> Found
     requires { length digits.now ≤ 16 }
     ensures { result ≡ answered (number digits.now) }
 {
     let mut said: usize = 0;
-    let mut i = 0;
-    while i < digits.len() {
-        let value = digit_value(digits[i]);
+    for &byte in digits {
+        let value = digit_value(byte);
         if NO_DIGIT <= value {
             return Found::Nothing;
         }
         said = 16 * said + value as usize;
-        i += 1;
     }
     Found::One(said)
 }
 
 // A digit below 16, in lower case.
+#[tactic(auto, unfolding(rules::specs::Hex::digit))]
 fn digit(value: u8) -> u8
     requires { value < 16 }
     ensures { result ≡ digit value }
 {
     if value < 10 {
-        return 0x30 + value;
+        b'0' + value
+    } else {
+        b'a' + (value - 10)
     }
-    0x61 + (value - 10)
 }
 
 // As many of a number's lowest digits as the part is long, from the last of them to the first.
+#[tactic(auto, using(crate::proofs::Digits::writing))]
 pub fn put_digits(part: &mut [u8], number: u64)
     ensures { part.new ≡ digits (length part.old) number }
 {
     let mut left = number;
-    let mut i = part.len();
-    while 0 < i {
-        i -= 1;
+    for i in (0..part.len()).rev() {
         part[i] = digit((left % 16) as u8);
         left /= 16;
     }
