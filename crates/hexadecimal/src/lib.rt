@@ -2,10 +2,8 @@
 #![tactic(auto)]
 
 ghost use Rattle.std.specs.Prelude.{◌≤◌, ◌<◌, ◌≡◌, length};
-ghost use Rattle.rules.specs.Lowest.{answered};
-ghost use Rattle.rules.specs.Hex.{digit_value, number, digit, digits};
+ghost use Rattle.rules.specs.Hex.{digit_value, hex_digit, number, digit, digits};
 
-use rules::Found;
 use rules::limits::NO_DIGIT;
 
 // The value of each hex digit, of either case; 16, `NO_DIGIT`, for a byte that is none.
@@ -29,21 +27,25 @@ fn digit_value(byte: u8) -> u8
     VALUES[byte as usize]
 }
 
+#[tactic(auto, using(rules::proofs::Hex::value_some, rules::proofs::Hex::value_none))]
+fn hex_digit(byte: u8) -> Option<u8>
+    ensures { result ≡ hex_digit byte }
+{
+    let value = digit_value(byte);
+    (value < NO_DIGIT).then_some(value)
+}
+
 // The number that at most 16 digits say, which therefore fits 64 bits.
 #[tactic(auto, using(crate::proofs::Digits::reading))]
-pub fn number(digits: &[u8]) -> Found
+pub fn number(digits: &[u8]) -> Option<usize>
     requires { length digits.now ≤ 16 }
-    ensures { result ≡ answered (number digits.now) }
+    ensures { result ≡ number digits.now }
 {
-    let mut said: usize = 0;
+    let mut said = 0;
     for &byte in digits {
-        let value = digit_value(byte);
-        if NO_DIGIT <= value {
-            return Found::Nothing;
-        }
-        said = 16 * said + value as usize;
+        said = 16 * said + usize::from(hex_digit(byte)?);
     }
-    Found::One(said)
+    Some(said)
 }
 
 // A digit below 16, in lower case.
@@ -65,6 +67,7 @@ pub fn put_digits(part: &mut [u8], number: u64)
     ensures { part.new ≡ digits (length part.old) number }
 {
     let mut left = number;
+    // by index: of what is written through `iter_mut` a proof knows the length alone
     for i in (0..part.len()).rev() {
         part[i] = digit((left % 16) as u8);
         left /= 16;
