@@ -7,8 +7,9 @@ ghost use Rattle.rules.specs.Answers.{reply, in_numbers, opening_status, call_in
 ghost use Rattle.rules.specs.Frames.{answer_line};
 
 use rules::limits::{ANSWER_KIND_END, ANSWER_STATUS_END, ANSWER_VALUE_END, LINE_FEED};
-use rules::{Answer, CallAnswer, OpeningAnswer, Reply};
+use rules::{Answer, CallAnswer, CallRefusal, OpeningAnswer, OpeningRefusal, Refusal, Reply};
 
+#[tactic(auto, unfolding(rules::specs::Answers::reply))]
 fn reply(status: u8, kind: u8, value: u32) -> Reply
     ensures { result ≡ reply status kind value }
 {
@@ -20,50 +21,53 @@ fn reply(status: u8, kind: u8, value: u32) -> Reply
 }
 
 // A line's answer: the paper's table to 09, a row a case: number, kind, value.
+#[tactic(auto, unfolding(rules::specs::Answers::in_numbers))]
 pub fn numbers_of(answer: Answer) -> Reply
     ensures { result ≡ in_numbers answer }
 {
     match answer {
-        Answer::Done { value } => reply(0, 0, value),
-        Answer::BadLine => reply(1, 0, 0),
-        Answer::BadKind => reply(2, 0, 0),
-        Answer::NotZero => reply(3, 0, 0),
-        Answer::NoRow => reply(5, 0, 0),
-        Answer::NoPlace => reply(6, 0, 0),
-        Answer::NotHeld => reply(7, 0, 0),
-        Answer::Released => reply(8, 0, 0),
-        Answer::NotGood { kind, first } => reply(9, kind, first),
+        Ok(value) => reply(0, 0, value),
+        Err(Refusal::BadLine) => reply(1, 0, 0),
+        Err(Refusal::BadKind) => reply(2, 0, 0),
+        Err(Refusal::NotZero) => reply(3, 0, 0),
+        Err(Refusal::NoRow) => reply(5, 0, 0),
+        Err(Refusal::NoPlace) => reply(6, 0, 0),
+        Err(Refusal::NotHeld) => reply(7, 0, 0),
+        Err(Refusal::Released) => reply(8, 0, 0),
+        Err(Refusal::NotGood { kind, first }) => reply(9, kind, first),
     }
 }
 
 // An opening's number.
+#[tactic(auto, unfolding(rules::specs::Answers::opening_status))]
 pub fn opening_status_of(answer: OpeningAnswer) -> u8
     ensures { result ≡ opening_status answer }
 {
     match answer {
-        OpeningAnswer::Open => 0,
-        OpeningAnswer::BadShadowLength => 21,
-        OpeningAnswer::BadRedzone => 22,
-        OpeningAnswer::BadTableLength => 23,
+        Ok(()) => 0,
+        Err(OpeningRefusal::BadShadowLength) => 21,
+        Err(OpeningRefusal::BadRedzone) => 22,
+        Err(OpeningRefusal::BadTableLength) => 23,
     }
 }
 
 // Any later call's answer: as a line's, or 24.
+#[tactic(auto, unfolding(rules::specs::Answers::call_in_numbers))]
 pub fn call_numbers_of(answer: CallAnswer) -> Reply
     ensures { result ≡ call_in_numbers answer }
 {
     match answer {
-        CallAnswer::Answered(line) => numbers_of(line),
-        CallAnswer::BadSession => reply(24, 0, 0),
+        Ok(line) => numbers_of(line),
+        Err(CallRefusal::BadSession) => reply(24, 0, 0),
     }
 }
 
 // Its number alone.
+#[tactic(auto, unfolding(rules::specs::Answers::call_status))]
 pub fn call_status_of(answer: CallAnswer) -> u8
     ensures { result ≡ call_status answer }
 {
-    let reply = call_numbers_of(answer);
-    reply.status
+    call_numbers_of(answer).status
 }
 
 // The answer's fields, and a line feed.
@@ -72,12 +76,14 @@ pub fn put_answer(part: &mut [u8], answer: Answer)
     ensures { part.new ≡ answer_line answer }
 {
     let reply = numbers_of(answer);
-    let value = reply.value;
     hexadecimal::put_digits(&mut part[0..ANSWER_STATUS_END], reply.status as u64);
     hexadecimal::put_digits(
         &mut part[ANSWER_STATUS_END..ANSWER_KIND_END],
         reply.kind as u64,
     );
-    hexadecimal::put_digits(&mut part[ANSWER_KIND_END..ANSWER_VALUE_END], value as u64);
+    hexadecimal::put_digits(
+        &mut part[ANSWER_KIND_END..ANSWER_VALUE_END],
+        reply.value as u64,
+    );
     part[ANSWER_VALUE_END] = LINE_FEED;
 }

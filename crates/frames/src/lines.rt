@@ -1,86 +1,73 @@
 // Frames in: a line is read into its fields, and the fields are given their meaning.
 ghost use Rattle.std.specs.Prelude.{◌≡◌};
-ghost use Rattle.rules.specs.Frames.{fields, fields_of_digits, fields_of_line, with_zero, frame, frame_of_line};
+ghost use Rattle.rules.specs.Frames.{fields_of_digits, fields_of_line, with_zero, frame, frame_of_line};
 
 use rules::limits::{FRAME_A_END, FRAME_DIGITS, FRAME_KIND_END, GRANT, READ, RELEASE, WRITE};
-use rules::{Answer, Fields, Found, Frame, Line};
-
-fn fields(kind: u8, a: u32, b: u32) -> Fields
-    ensures { result ≡ fields kind a b }
-{
-    Fields { kind, a, b }
-}
+use rules::{Asked, Fields, Frame, Refusal};
 
 // Kind, A and B.
-fn fields_of_digits(line: [u8; 18]) -> Line
+#[tactic(auto, unfolding(rules::specs::Frames::fields_of_digits, rules::specs::Hex::read_field))]
+fn fields_of_digits(line: [u8; 18]) -> Option<Fields>
     ensures { result ≡ fields_of_digits line }
 {
-    let Found::One(kind) = hexadecimal::number(&line[0..FRAME_KIND_END]) else {
-        return Line::NotDigits;
-    };
-    let Found::One(a) = hexadecimal::number(&line[FRAME_KIND_END..FRAME_A_END]) else {
-        return Line::NotDigits;
-    };
-    let Found::One(b) = hexadecimal::number(&line[FRAME_A_END..FRAME_DIGITS]) else {
-        return Line::NotDigits;
-    };
-    Line::Of(fields(kind as u8, a as u32, b as u32))
+    let kind = hexadecimal::number(&line[..FRAME_KIND_END])?;
+    let a = hexadecimal::number(&line[FRAME_KIND_END..FRAME_A_END])?;
+    let b = hexadecimal::number(&line[FRAME_A_END..FRAME_DIGITS])?;
+    Some(Fields {
+        kind: kind as u8,
+        a: a as u32,
+        b: b as u32,
+    })
 }
 
 // The fields of a line of `length` bytes, whose first 18 are given.
-pub fn fields_of_line(length: usize, line: [u8; 18]) -> Line
+#[tactic(auto, unfolding(rules::specs::Frames::fields_of_line))]
+pub fn fields_of_line(length: usize, line: [u8; 18]) -> Option<Fields>
     ensures { result ≡ fields_of_line length line }
 {
     if length != FRAME_DIGITS {
-        return Line::NotDigits;
+        return None;
     }
     fields_of_digits(line)
 }
 
 // A grant and a release have no B.
-fn with_zero(b: u32, asked: Frame) -> Frame
-    ensures { result ≡ with_zero b asked }
+#[tactic(auto, unfolding(rules::specs::Frames::with_zero))]
+fn with_zero(b: u32, frame: Frame) -> Asked
+    ensures { result ≡ with_zero b frame }
 {
-    if b == 0 {
-        return asked;
+    if b != 0 {
+        return Err(Refusal::NotZero);
     }
-    Frame::Refused(Answer::NotZero)
+    Ok(frame)
 }
 
 // What fields ask.
-pub fn frame(fields: Fields) -> Frame
+#[tactic(auto, unfolding(rules::specs::Frames::frame))]
+pub fn frame(fields: Fields) -> Asked
     ensures { result ≡ frame fields }
 {
-    let kind = fields.kind;
-    let a = fields.a;
-    let b = fields.b;
-    if kind == GRANT {
-        return with_zero(b, Frame::Grant { size: a });
-    }
-    if kind == RELEASE {
-        return with_zero(b, Frame::Release { address: a });
-    }
-    if kind == READ {
-        return Frame::Read {
+    let Fields { kind, a, b } = fields;
+    match kind {
+        GRANT => with_zero(b, Frame::Grant { size: a }),
+        RELEASE => with_zero(b, Frame::Release { address: a }),
+        READ => Ok(Frame::Read {
             address: a,
             length: b,
-        };
-    }
-    if kind == WRITE {
-        return Frame::Write {
+        }),
+        WRITE => Ok(Frame::Write {
             address: a,
             length: b,
-        };
+        }),
+        _ => Err(Refusal::BadKind),
     }
-    Frame::Refused(Answer::BadKind)
 }
 
 // What a line of `length` bytes asks, whose first 18 are given.
-pub fn frame_of_line(length: usize, line: [u8; 18]) -> Frame
+#[tactic(auto, unfolding(rules::specs::Frames::frame_of_line, rules::specs::Frames::asked))]
+pub fn frame_of_line(length: usize, line: [u8; 18]) -> Asked
     ensures { result ≡ frame_of_line length line }
 {
-    match fields_of_line(length, line) {
-        Line::Of(fields) => frame(fields),
-        Line::NotDigits => Frame::Refused(Answer::BadLine),
-    }
+    let fields = fields_of_line(length, line).ok_or(Refusal::BadLine)?;
+    frame(fields)
 }

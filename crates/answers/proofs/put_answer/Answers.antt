@@ -4,11 +4,10 @@ use Prim.Native.Nat.{ℕ}
 use mathlib.Core.Path.{◌≡◌, sym, ap, ap₂, ◌∙◌}
 use mathlib.Core.List.{List}
 use lib.ListN.{length, set}
-use Rattle.rules.specs.declared.Answer.{Answer}
+use Rattle.rules.specs.Answers.{Answer, in_numbers}
 use Rattle.rules.specs.declared.Reply.{Reply}
 use Rattle.rules.specs.Field.{digits_of}
 use Rattle.rules.specs.Limits.{answer_bytes, answer_fields, answer_status, answer_kind, answer_value, line_feed}
-use Rattle.rules.specs.Answers.{in_numbers}
 use Rattle.rules.specs.Hex.{digits}
 use Rattle.rules.specs.Frames.{answer_line}
 use Rattle.rules.proofs.Hex.{begun, begun_none, begun_next, begun_all}
