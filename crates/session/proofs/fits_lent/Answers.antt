@@ -1,36 +1,17 @@
--- `session::fits_lent` meets its contract: within its limits four times the rows fit, and the tests are the
--- definition's. Assumes nothing.
-use Prim.Native.Nat.{◌*◌}
-use native.Mathlib.Omega.{arith}
-use mathlib.Core.Path.{sym, ap, ◌∙◌}
-use mathlib.Core.Bool.{◌&&◌}
-use lib.ListN.{length}
-use lib.Dec.{eqb}
-use Rattle.rules.specs.Limits.{least_rows, most_rows, row_numbers}
+-- `session::fits_lent` meets its contract: of a session within its limits four times the rows fit. Assumes nothing.
+use Rattle.std.proofs.Common.{arith}
 use Rattle.rules.specs.Watcher.{lent_lengths}
-use Rattle.rules.specs.Calls.{fits_session}
-use Rattle.rules.proofs.Tests.{between_is}
-use Rattle.rules.proofs.Calls.{within_true}
+use Rattle.rules.specs.Calls.{within_limits, fits_session}
 use Rattle.session.proofs.fits_lent.Goals as goal
 
-pub returns-then-not-within_limits : goal.returns-then-not-within_limits
+pub returns-then-shadow-session : goal.returns-then-shadow-session
 unfolding fits_session lent_lengths
-returns-then-not-within_limits c =
-    let session = c.args.session in
-    ap (λ within. within && (eqb (length c.args.shadow.now) session.granules
-    && eqb (length c.args.table.now) (row_numbers * session.rows)))
-    (sym (sym c.within_limits.ensures ∙ c.if-not-within_limits.true))
+returns-then-shadow-session c = grind arith
 
-pub overflow_mul-of_table : goal.overflow_mul-of_table
-overflow_mul-of_table c =
-    let session = c.args.session in
-    let within = within_true session (sym c.within_limits.ensures ∙ c.if-not-within_limits.false) in
-    record { fits = omega (arith, (between_is least_rows most_rows session.rows within.rows).1) }
-
-pub returns : goal.returns
+pub returns-else-shadow-session : goal.returns-else-shadow-session
 unfolding fits_session lent_lengths
-returns c =
-    let session = c.args.session in
-    ap (λ within. within && (eqb (length c.args.shadow.now) session.granules
-    && eqb (length c.args.table.now) (row_numbers * session.rows)))
-    (sym (sym c.within_limits.ensures ∙ c.if-not-within_limits.false))
+returns-else-shadow-session c = grind arith
+
+pub overflow_mul-result : goal.overflow_mul-result
+unfolding within_limits
+overflow_mul-result c = grind arith
