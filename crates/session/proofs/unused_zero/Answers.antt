@@ -1,5 +1,6 @@
 -- `session::unused_zero` meets its contract: the rule asks one place after the other, as `all` does. Assumes nothing.
-use Rattle.std.proofs.Common.{ℕ, zero, suc, ◌-◌, ◌<◌, ◌≡◌, ◌==◌, ◌∙◌, refl, List, length, drop, drop-cons, add-one, rules, tests, arith}
+use Rattle.std.proofs.Common.{ℕ, zero, suc, ◌-◌, ◌<◌, ◌≡◌, ◌==◌, ◌∙◌, refl, List, length, drop, drop-cons, add-one}
+use Rattle.std.proofs.Common.{rules, tests, arith}
 use Rattle.std.proofs.lemmas.Grind.{common_steps}
 use Rattle.std.specs.List.{list_all}
 use Rattle.std.proofs.lemmas.Iterator.{YieldsList-from_slice}
