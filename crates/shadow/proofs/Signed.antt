@@ -7,11 +7,12 @@ use Rattle.rules.specs.Lowest.{lowest}
 use Rattle.rules.specs.Shadow.{leading, signed}
 use Rattle.rules.proofs.Lowest.{at_entry}
 use Rattle.shadow.specs.Signed.{by_sign}
-use Rattle.shadow.proofs.Table.{entries, entry_leading}
+use Rattle.shadow.specs.declared.byte.TheConstants.{LEADING}
+use Rattle.shadow.proofs.Table.{entry_leading}
 
-pub entry_signed : (v : ℕ) → v < 256 → get_or entries v 0 ≡ by_sign (signed v)
-unfolding entries lowest by_sign signed
-entry_signed v below = at_entry entries (λ k. by_sign (signed k)) refl v below
+pub entry_signed : (v : ℕ) → v < 256 → get_or LEADING v 0 ≡ by_sign (signed v)
+unfolding lowest by_sign signed
+entry_signed v below = at_entry LEADING (λ k. by_sign (signed k)) refl v below
 
 -- so the definition's rule is the signed byte's
 pub leading_signed : (v : ℕ) → v < 256 → leading v ≡ by_sign (signed v)

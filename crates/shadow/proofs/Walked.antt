@@ -1,53 +1,52 @@
--- The walk over a range: how far it has come, and what its next byte makes of it. Assumes nothing.
-use Prim.Native.Nat.{ℕ, ◌+◌, ◌/◌, ◌%◌, ◌≤◌, ◌<◌}
+-- The walk over a range that ends before byte e: what its next byte b makes of what is judged. Assumes nothing.
+use Prim.Native.Nat.{ℕ, ◌+◌, ◌-◌, ◌/◌, ◌%◌, ◌≤◌, ◌<◌}
 use native.Mathlib.Omega.{arith}
 use mathlib.Core.Path.{◌≡◌, ap, ◌∙◌}
-use mathlib.Core.Bool.{true, false}
+use mathlib.Core.Bool.{false, not}
+use mathlib.Core.Option.{none, some}
 use mathlib.Core.List.{List}
 use lib.ListN.{length, get_or}
 use Rattle.rules.specs.declared.Verdict.TheVariants.{Good, Bad}
 use Rattle.rules.specs.Limits.{granule, outside}
-use Rattle.rules.specs.Shadow.{leading, shadow_of, addressable, kind, judge, AllGood}
-use Rattle.rules.proofs.Lowest.{and_next}
-use Rattle.rules.proofs.Shadow.{addressable_is, not_inside, not_leading, kind_inside, kind_outside, judge_good}
-use Rattle.rules.proofs.Shadow.{judge_bad}
+use Rattle.rules.specs.Shadow.{leading, shadow_of, addressable, kind, first_bad, judge}
+use Rattle.rules.proofs.Lowest.{walk_found, walk_on, walk_end}
+use Rattle.rules.proofs.Shadow.{addressable_is, not_inside, not_leading, kind_inside, kind_outside}
+use Rattle.rules.proofs.Shadow.{verdict_none, verdict_some}
 
--- every byte before b of the n bytes from a on is addressable
-pub record Walked (shadow : List ℕ) (a n b : ℕ) : Type 0 where
-  pub from : a ≤ b
-  pub upto : b ≤ a + n
-  pub good : AllGood shadow a b
+module _ (shadow : List ℕ) (b e : ℕ) where
+  bad_is : b < e → addressable shadow b ≡ false → judge shadow b (e - b) ≡ Bad (kind shadow b) b
+  unfolding first_bad
+  bad_is below bad =
+      verdict_some shadow b (e - b) b (walk_found (λ j. not (addressable shadow j)) e b below (ap not bad))
 
-module _ (shadow : List ℕ) (a n : ℕ) where
-  pub walked_none : Walked shadow a n a
-  walked_none = record { from = omega arith; upto = omega arith; good = λ j from below. absurd (omega arith) }
-
-  pub walked_all : (b : ℕ) → Walked shadow a n b → a + n ≤ b → judge shadow a n ≡ Good
-  walked_all b w whole = judge_good shadow a n (λ j from below. w.good j from (omega arith))
-
-  walked_bad : (b : ℕ) → Walked shadow a n b → b < a + n → addressable shadow b ≡ false → judge shadow a n
-      ≡ Bad (kind shadow b) b
-  walked_bad b w below bad =
-      judge_bad shadow a n b (record { from = w.from; below = below; bad = bad; first = w.good })
-
-  pub walked_outside : (b : ℕ) → Walked shadow a n b → b < a + n → length shadow ≤ b / granule → judge shadow a n
-      ≡ Bad outside b
-  walked_outside b w below beyond =
-      walked_bad b w below (not_inside shadow b (omega arith))
+  pub walked_outside : b < e → length shadow ≤ b / granule → judge shadow b (e - b) ≡ Bad outside b
+  walked_outside below beyond =
+      bad_is below (not_inside shadow b (omega arith))
       ∙ ap (λ k. Bad k b) (kind_outside shadow b (omega arith))
 
-  pub walked_poisoned : (b : ℕ) → Walked shadow a n b → b < a + n → b / granule < length shadow
-      → leading (get_or shadow (b / granule) 0) ≤ b % granule → judge shadow a n ≡ Bad (get_or shadow (b / granule) 0) b
+  pub walked_poisoned : (l : ℕ) → b < e → b / granule < length shadow
+      → l ≡ leading (get_or shadow (b / granule) 0) → l ≤ b % granule
+      → judge shadow b (e - b) ≡ Bad (get_or shadow (b / granule) 0) b
   unfolding shadow_of
-  walked_poisoned b w below in_arena past =
-      walked_bad b w below (not_leading shadow b past)
+  walked_poisoned l below in_arena is past =
+      bad_is below (not_leading shadow b (omega arith))
       ∙ ap (λ k. Bad k b) (kind_inside shadow b (omega arith))
 
-  pub walked_next : (b : ℕ) → Walked shadow a n b → b < a + n → b / granule < length shadow
-      → b % granule < leading (get_or shadow (b / granule) 0) → Walked shadow a n (b + 1)
-  unfolding shadow_of
-  walked_next b w below in_arena in_leading = record {
-    from = omega arith;
-    upto = omega arith;
-    good = and_next (λ j. addressable shadow j ≡ true) a b w.good (addressable_is shadow b (omega arith) in_leading);
-  }
+  pub walked_good : (l : ℕ) → b < e → b / granule < length shadow
+      → l ≡ leading (get_or shadow (b / granule) 0) → b % granule < l
+      → judge shadow b (e - b) ≡ judge shadow (b + 1) (e - (b + 1))
+  unfolding shadow_of first_bad judge
+  walked_good l below in_arena is in_leading =
+      ap (λ o. elim o [ none ↦ Good | some j ↦ Bad (kind shadow j) j ])
+      (walk_on (λ j. not (addressable shadow j)) e b below
+      (ap not (addressable_is shadow b (omega arith) (omega arith))))
+
+  pub walked_all : e ≤ b → judge shadow b (e - b) ≡ Good
+  unfolding first_bad
+  walked_all whole = verdict_none shadow b (e - b) (walk_end (λ j. not (addressable shadow j)) e b whole)
+
+pub walked_none : (shadow : List ℕ) (a n : ℕ) → judge shadow a n ≡ judge shadow a (a + n - a)
+walked_none shadow a n = ap (judge shadow a) (omega arith)
+
+-- all of them, for the loop's goals
+pub ruleset walked = (walked_none, walked_outside, walked_poisoned, walked_good, walked_all)

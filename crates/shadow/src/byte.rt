@@ -18,27 +18,25 @@ const LEADING: [u8; 256] = [
     0, 0,
 ];
 
+#[tactic(auto, using(crate::proofs::Table::entry_leading))]
 pub fn leading(value: u8) -> u8
     ensures { result ≡ leading value }
 {
     LEADING[value as usize]
 }
 
-// "The byte is read as a signed byte." A cast is defined only where the value fits, so the upper half is brought down
-// by 256 first.
+// "The byte is read as a signed byte."
+#[tactic(auto, unfolding(rules::specs::Shadow::signed))]
 pub fn signed_byte(value: u8) -> i8
     ensures { result ≡ signed value }
 {
-    if value < 128 {
-        value as i8
-    } else {
-        (value as i16 - 256) as i8
-    }
+    value.cast_signed()
 }
 
 // "Negative means poisoned."
+#[tactic(auto, unfolding(rules::specs::Shadow::signed, rules::specs::Shadow::negative))]
 pub fn poisoned(value: u8) -> bool
     ensures { result ≡ negative value }
 {
-    signed_byte(value) < 0
+    signed_byte(value).is_negative()
 }

@@ -1,11 +1,9 @@
--- `shadow::range::judge` meets its contract. The loop's invariant: every byte from the address to the one looked at is
--- addressable. The measure is the bytes that are left. Assumes nothing.
+-- `shadow::range::judge` meets its contract. The loop's invariant: what is judged of the range is judged of its bytes
+-- from the one looked at on. Assumes nothing.
 use Prim.Native.Nat.{◌+◌, ◌-◌}
-use Rattle.shadow.proofs.Walked.{Walked}
+use mathlib.Core.Path.{◌≡◌}
+use Rattle.rules.specs.Shadow.{judge}
 use Rattle.shadow.proofs.range.judge.Given as goal
 
 abbrev pub invariant-loop-byte : goal.invariant-loop-byte
-invariant-loop-byte l = Walked l.shadow l.address l.length l.byte
-
-abbrev pub decreases-loop-byte : goal.decreases-loop-byte
-decreases-loop-byte l = l.address + l.length - l.byte
+invariant-loop-byte l = judge l.shadow l.address l.length ≡ judge l.shadow l.byte (l.address + l.length - l.byte)
