@@ -11,6 +11,7 @@ use rules::limits::REDZONE_BYTE;
 
 // "A candidate start is given up at the first shadow byte that is not fa": each window that holds that byte fails with
 // it, so the next start is past it. `start` is where the window begins, its redzone below included.
+#[tactic(auto, using(crate::proofs::Sought::walked))]
 pub fn place(shadow: &[u8], redzone: usize, granules: usize) -> Found
     requires { Window redzone granules }
     ensures { result ≡ answered (place shadow.now redzone granules) }
@@ -18,16 +19,13 @@ pub fn place(shadow: &[u8], redzone: usize, granules: usize) -> Found
     let window = redzone + granules + redzone;
     let mut start = 0;
     'starts: while window <= shadow.len() - start {
-        let mut passed = 0;
-        while passed < window {
+        for passed in 0..window {
             if shadow[start + passed] != REDZONE_BYTE {
                 start = start + passed + 1;
                 continue 'starts;
             }
-            passed += 1;
         }
-        let place = start + redzone;
-        return Found::One(place);
+        return Found::One(start + redzone);
     }
     Found::Nothing
 }
