@@ -1,0 +1,2 @@
+-- What the painter's goals cite.
+pub mod Granted
