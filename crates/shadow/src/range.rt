@@ -2,8 +2,8 @@
 ghost use Rattle.std.specs.Prelude.{◌≡◌};
 ghost use Rattle.rules.specs.Shadow.{judge};
 
-use rules::Verdict;
 use rules::limits::{GRANULE, OUTSIDE};
+use rules::{BadByte, Verdict};
 
 // "Whole numbers that don't wrap": 64 bits hold the sum of two 32-bit numbers. The first bad byte ends the walk, so it
 // never goes past the arena's end.
@@ -16,17 +16,17 @@ pub fn judge(shadow: &[u8], address: u32, length: u32) -> Verdict
     for byte in start..end {
         let at = byte as usize;
         let Some(&value) = shadow.get(at / GRANULE) else {
-            return Verdict::Bad {
+            return Err(BadByte {
                 kind: OUTSIDE,
                 first: byte,
-            };
+            });
         };
         if at % GRANULE >= crate::byte::leading(value) as usize {
-            return Verdict::Bad {
+            return Err(BadByte {
                 kind: value,
                 first: byte,
-            };
+            });
         }
     }
-    Verdict::Good
+    Ok(())
 }
