@@ -5,11 +5,11 @@ use native.Mathlib.Omega.{arith}
 use mathlib.Core.Path.{◌≡◌, sym, ap, ap₂, ◌∙◌}
 use mathlib.Core.Logic.{◌≢◌}
 use mathlib.Core.Bool.{Bool, true, not}
-use mathlib.Core.Option.{Option, none, some}
 use mathlib.Core.List.{List}
 use lib.Dec.{eqb}
 use lib.ListN.{length, get_or}
 use borrow.Author.Tests.{eq-eqb}
+use Rattle.std.specs.Prelude.{Option, None, Some}
 use Rattle.rules.specs.Limits.{redzone_byte}
 use Rattle.rules.specs.Lowest.{lowest, found, all_equal, lowest_zero, lowest_here, lowest_later}
 use Rattle.rules.specs.Grant.{fits, place}
@@ -52,7 +52,7 @@ module _ (shadow : List ℕ) (R u : ℕ) where
   unfolding place sought
   sought_none = ap₂ (lowest (fits shadow R u)) (omega arith) (omega arith)
 
-  pub sought_all : (start : ℕ) → length shadow - start < R + u + R → sought start ≡ none
+  pub sought_all : (start : ℕ) → length shadow - start < R + u + R → sought start ≡ None
   unfolding sought
   sought_all start over =
       let left : length shadow + 1 - (R + u + R) - start ≡ 0 = omega arith in
@@ -60,7 +60,7 @@ module _ (shadow : List ℕ) (R u : ℕ) where
 
   pub sought_here : (start k : ℕ) → start ≤ length shadow → R + u + R ≤ length shadow - start
       → all_equal shadow redzone_byte start (R + u + R) ≡ all_equal shadow redzone_byte (start + k) (R + u + R - k)
-      → R + u + R ≤ k → sought start ≡ some (start + R)
+      → R + u + R ≤ k → sought start ≡ Some (start + R)
   unfolding sought fits all_equal
   sought_here start k upto room same whole =
       let left : length shadow + 1 - (R + u + R) - start ≡ suc (length shadow - (R + u + R) - start) = omega arith in
@@ -73,7 +73,7 @@ module _ (shadow : List ℕ) (R u : ℕ) where
       ∙ ap (λ o. not (found o)) (lowest_zero (λ j. not (eqb (get_or shadow j 0) redzone_byte)) (start + k)) in
       ap (λ n. lowest (fits shadow R u) n (R + start)) left
       ∙ lowest_here (fits shadow R u) (length shadow - (R + u + R) - start) (R + start) passes
-      ∙ ap some place_is
+      ∙ ap Some place_is
 
   -- each window that begins at or before a byte that is not fa, and not before the start, holds that byte
   pub sought_past : (start k : ℕ) → get_or shadow (start + k) 0 ≢ redzone_byte → k < R + u + R

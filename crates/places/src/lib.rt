@@ -2,19 +2,17 @@
 #![tactic(auto)]
 
 ghost use Rattle.std.specs.Prelude.{◌≡◌};
-ghost use Rattle.rules.specs.Lowest.{answered};
 ghost use Rattle.rules.specs.Grant.{place};
 ghost use Rattle.places.specs.Window.{Window};
 
-use rules::Found;
 use rules::limits::REDZONE_BYTE;
 
 // "A candidate start is given up at the first shadow byte that is not fa": each window that holds that byte fails with
 // it, so the next start is past it. `start` is where the window begins, its redzone below included.
 #[tactic(auto, using(crate::proofs::Sought::walked))]
-pub fn place(shadow: &[u8], redzone: usize, granules: usize) -> Found
+pub fn place(shadow: &[u8], redzone: usize, granules: usize) -> Option<usize>
     requires { Window redzone granules }
-    ensures { result ≡ answered (place shadow.now redzone granules) }
+    ensures { result ≡ place shadow.now redzone granules }
 {
     let window = redzone + granules + redzone;
     let mut start = 0;
@@ -25,7 +23,7 @@ pub fn place(shadow: &[u8], redzone: usize, granules: usize) -> Found
                 continue 'starts;
             }
         }
-        return Found::One(start + redzone);
+        return Some(start + redzone);
     }
-    Found::Nothing
+    None
 }

@@ -3,9 +3,9 @@ use Prim.Native.Nat.{ℕ, ◌+◌, ◌-◌, ◌/◌, ◌%◌, ◌≤◌, ◌<◌
 use native.Mathlib.Omega.{arith}
 use mathlib.Core.Path.{◌≡◌, ap, ◌∙◌}
 use mathlib.Core.Bool.{false, not}
-use Rattle.std.specs.Prelude.{Some, None}
 use mathlib.Core.List.{List}
 use lib.ListN.{length, get_or}
+use Rattle.std.specs.Prelude.{Some, None}
 use Rattle.rules.specs.Limits.{granule, outside}
 use Rattle.rules.specs.Shadow.{leading, shadow_of, addressable, kind, first_bad, good, bad, judge}
 use Rattle.rules.proofs.Lowest.{walk_found, walk_on, walk_end}
