@@ -1,9 +1,7 @@
 -- What one pass over the rows of a table finds: each field is a rule's own search or sum.
-use Rattle.std.specs.Prelude.{ℕ, ◌<◌, ◌≤◌, ◌*◌, ◌≡◌, Bool, true, false, ◌&&◌, List, length, eqb}
-use Rattle.rules.specs.declared.Found.{Found}
-use Rattle.rules.specs.declared.Found.TheVariants.{One, Nothing}
+use Rattle.std.specs.Prelude.{ℕ, ◌<◌, ◌≤◌, ◌*◌, ◌≡◌, ◌&&◌, List, length, Option, eqb}
 use Rattle.rules.specs.Limits.{row_numbers, most_rows, most_redzone, live, quarantined}
-use Rattle.rules.specs.Lowest.{lowest, found, answered, total}
+use Rattle.rules.specs.Lowest.{lowest, found, total}
 use Rattle.rules.specs.Table.{rows, size, state}
 use Rattle.rules.specs.Release.{starts_at, row_at, if_quarantined, in_quarantine, weight, weights, oldest}
 use Rattle.blocks.specs.declared.rows.Seen.{Seen}
@@ -22,33 +20,27 @@ pub record TableLent (R : ℕ) (table : List ℕ) : Type 0 where
 -- one to evict
 unfoldable pub survey : ℕ → List ℕ → ℕ → Seen
 survey R table a = record {
-  live = answered (row_at live table a);
+  live = row_at live table a;
   again = found (row_at quarantined table a);
   count = in_quarantine table;
   weight = weights R table;
-  oldest = answered (oldest table (rows table));
+  oldest = oldest table (rows table);
 }
 
 -- the same of the first n rows
 unfoldable pub surveyed : ℕ → List ℕ → ℕ → ℕ → Seen
 surveyed R table a n = record {
-  live = answered (lowest (λ i. eqb (state table i) live && starts_at table a i) n 0);
+  live = lowest (λ i. eqb (state table i) live && starts_at table a i) n 0;
   again = found (lowest (λ i. eqb (state table i) quarantined && starts_at table a i) n 0);
   count = total (if_quarantined table (λ _. 1)) n;
   weight = total (if_quarantined table (λ i. weight R (size table i))) n;
-  oldest = answered (oldest table n);
+  oldest = oldest table n;
 }
 
--- of what was found before row i and row i itself, the first that passes
-abbrev pub first_of : Found → Bool → ℕ → Found
-first_of (One k) passes i = One k
-first_of Nothing true i = One i
-first_of Nothing false i = Nothing
-
 -- row i comes next, and `earlier` is the oldest of the rows before it
-pub record OldestSoFar (table : List ℕ) (earlier : Found) (i : ℕ) : Type 0 where
+pub record OldestSoFar (table : List ℕ) (earlier : Option ℕ) (i : ℕ) : Type 0 where
   pub below : i < rows table
-  pub before : earlier ≡ answered (oldest table i)
+  pub before : earlier ≡ oldest table i
 
 -- row i comes next, and `seen` is what was found before it
 pub record SurveySoFar (R : ℕ) (table : List ℕ) (a i : ℕ) (seen : Seen) : Type 0 where

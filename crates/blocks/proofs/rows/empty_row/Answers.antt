@@ -1,48 +1,30 @@
-use Prim.Native.Nat.{◌/◌}
+-- `blocks::rows::empty_row` meets its contract: what a `find` over the rows finds is the lowest. Assumes nothing.
+use Prim.Native.Nat.{ℕ, ◌≤◌, ◌<◌}
 use native.Mathlib.Omega.{arith}
-use mathlib.Core.Path.{◌≡◌, sym, ap, ◌∙◌}
-use mathlib.Core.Bool.{true, false}
-use lib.ListN.{length}
-use borrow.Author.Tests.{eq-eqb, ne_eqb}
-use Rattle.rules.specs.Limits.{row_numbers, empty}
-use Rattle.rules.specs.Lowest.{answered}
-use Rattle.rules.specs.Table.{state, is_empty}
-use Rattle.rules.specs.Table as table
+use mathlib.Core.Path.{◌≡◌, sym}
+use mathlib.Core.Bool.{Bool, true, false}
+use Rattle.std.proofs.Common.{rules, tests}
+use Rattle.std.proofs.lemmas.Iterator.{first_from_Range}
+use Rattle.std.specs.Prelude.{Option, Some, None, MatchOption}
+use Rattle.rules.specs.Lowest.{lowest}
+use Rattle.rules.specs.Table.{rows, is_empty}
 use Rattle.rules.specs.Grant.{empty_row}
-use Rattle.rules.proofs.Lowest.{walk_start, walk_found, walk_on, walk_end}
+use Rattle.rules.proofs.Lowest.{lowest_is, lowest_no}
 use Rattle.blocks.proofs.rows.empty_row.Goals as goal
 
-pub loop-row-init : goal.loop-row-init
-unfolding empty_row table.rows
-loop-row-init c =
-    let table = c.args.table.now in
-    (omega arith, walk_start (is_empty table) (length table / row_numbers))
-
-pub number-requires : goal.number-requires
-unfolding table.rows
-number-requires c = record { below = c.loop-row-test.true; in_row = omega arith }
-
-pub returns-then-number-eq-EMPTY : goal.returns-then-number-eq-EMPTY
-returns-then-number-eq-EMPTY c =
-    let loop = c.loop-row in
-    let table = c.args.table.now in
-    let is : is_empty table loop.row ≡ true =
-    eq-eqb (state table loop.row) empty (sym c.number.ensures ∙ c.if-number-eq-EMPTY.true) in
-    sym (ap answered (loop.invariant.1 ∙ walk_found (is_empty table) (length table / row_numbers) loop.row
-    (omega arith) is))
-
-pub loop-row-preserved : goal.loop-row-preserved
-loop-row-preserved c =
-    let loop = c.loop-row in
-    let table = c.args.table.now in
-    let is_not : is_empty table loop.row ≡ false =
-    ne_eqb (state table loop.row) empty (λ e. c.if-number-eq-EMPTY.false (c.number.ensures ∙ e)) in (
-      omega arith,
-      loop.invariant.1 ∙ walk_on (is_empty table) (length table / row_numbers) loop.row (omega arith) is_not,
-    )
+lowest_by : (test : ℕ → Bool) (n : ℕ) (first : Option ℕ)
+    → MatchOption first ((k : ℕ) → 0 ≤ k → k < n → test k ≡ false)
+    (λ i. (0 ≤ i) × (i < n) × (test i ≡ true) × ((k : ℕ) → 0 ≤ k → k < i → test k ≡ false)) → first ≡ lowest test n 0
+lowest_by test n None none = sym (lowest_no test n 0 (λ j from below. none j from (omega arith)))
+lowest_by test n (Some i) at =
+    let below : i < n = at.1 in
+    sym (lowest_is test n 0 i (record { from = at.0; below = omega arith; passes = at.2; first = at.3 }))
 
 pub returns : goal.returns
+unfolding empty_row rows
 returns c =
-    let loop = c.loop-row in
     let table = c.args.table.now in
-    sym (ap answered (loop.invariant.1 ∙ walk_end (is_empty table) (length table / row_numbers) loop.row (omega arith)))
+    lowest_by (is_empty table) (rows table) c.find.result
+    (first_from_Range _ _ _ _ (λ i. is_empty table i ≡ true) (λ i. is_empty table i ≡ false) c.find.ensures.ran
+    (λ x q k. grind (arith, tests))
+    (λ x q k. (search rules, grind (arith, tests))))
