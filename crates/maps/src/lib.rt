@@ -3,10 +3,10 @@
 
 ghost use Rattle.std.specs.Prelude.{◌^◌, ◌<◌, ◌≡◌};
 ghost use Rattle.rules.specs.Answers.{map_status};
-ghost use Rattle.rules.specs.Maps.{map32, map64, region, mapped, map_call, Published};
+ghost use Rattle.rules.specs.Maps.{map32, map64, region, region_number, map_answer, map_shadow, mapped, shadow_address, map_call};
 
 use rules::limits::GRANULE;
-use rules::{Map, MapAnswer, Mapped, Region};
+use rules::{Map, MapAnswer, MapRefusal, Mapped, Region};
 
 // The printed table's 32-bit column.
 const COLUMN32: Map = Map {
@@ -28,46 +28,63 @@ const COLUMN64: Map = Map {
     high_mem: 0x7fff_ffff_ffff,
 };
 
+#[tactic(auto, unfolding(rules::specs::Maps::region))]
 fn region_of(map: Map, address: u64) -> Region
-    requires { Published map }
     ensures { result ≡ region map address }
 {
     if address <= map.low_mem {
-        return Region::LowMem;
+        Region::LowMem
+    } else if address <= map.low_shadow {
+        Region::LowShadow
+    } else if address <= map.shadow_gap {
+        Region::ShadowGap
+    } else if address <= map.high_shadow {
+        Region::HighShadow
+    } else if address <= map.high_mem {
+        Region::HighMem
+    } else {
+        Region::Nowhere
     }
-    if address <= map.low_shadow {
-        return Region::LowShadow;
+}
+
+#[tactic(auto, unfolding(rules::specs::Maps::map_answer))]
+fn answer_of(found: Region) -> MapAnswer
+    ensures { result ≡ map_answer found }
+{
+    match found {
+        Region::Nowhere => Err(MapRefusal::BeyondMap),
+        Region::ShadowGap => Err(MapRefusal::InGap),
+        _ => Ok(()),
     }
-    if address <= map.shadow_gap {
-        return Region::ShadowGap;
-    }
-    if address <= map.high_shadow {
-        return Region::HighShadow;
-    }
-    if address <= map.high_mem {
-        return Region::HighMem;
-    }
-    Region::Nowhere
 }
 
 // A map's number.
+#[tactic(auto, unfolding(rules::specs::Answers::map_status))]
 pub fn status_of(answer: MapAnswer) -> u8
     ensures { result ≡ map_status answer }
 {
     match answer {
-        MapAnswer::HasShadow => 0,
-        MapAnswer::BeyondMap => 31,
-        MapAnswer::InGap => 32,
+        Ok(()) => 0,
+        Err(MapRefusal::BeyondMap) => 31,
+        Err(MapRefusal::InGap) => 32,
     }
 }
 
-fn handed(answer: MapAnswer, region: u8, shadow: u64) -> Mapped
-    ensures { result ≡ record { status = map_status answer; region = region; shadow = shadow } }
+// The region's number.
+#[tactic(auto, unfolding(rules::specs::Maps::region_number))]
+fn number_of(found: Region) -> u8
+    ensures { result ≡ region_number found }
 {
-    Mapped {
-        status: status_of(answer),
-        region,
-        shadow,
+    found as u8
+}
+
+#[tactic(auto, unfolding(rules::specs::Maps::map_shadow))]
+fn shadow_of(found: Region, shadow: u64) -> u64
+    ensures { result ≡ map_shadow found shadow }
+{
+    match found {
+        Region::Nowhere | Region::ShadowGap => 0,
+        _ => shadow,
     }
 }
 
@@ -75,23 +92,28 @@ fn handed(answer: MapAnswer, region: u8, shadow: u64) -> Mapped
 fn mapped(found: Region, shadow: u64) -> Mapped
     ensures { result ≡ mapped found shadow }
 {
-    match found {
-        Region::Nowhere => handed(MapAnswer::BeyondMap, 0, 0),
-        Region::LowMem => handed(MapAnswer::HasShadow, 1, shadow),
-        Region::LowShadow => handed(MapAnswer::HasShadow, 2, shadow),
-        Region::ShadowGap => handed(MapAnswer::InGap, 3, 0),
-        Region::HighShadow => handed(MapAnswer::HasShadow, 4, shadow),
-        Region::HighMem => handed(MapAnswer::HasShadow, 5, shadow),
+    Mapped {
+        status: status_of(answer_of(found)),
+        region: number_of(found),
+        shadow: shadow_of(found, shadow),
     }
 }
 
 // The offset leaves room for any address / 8, so the sum does not wrap.
+#[tactic(auto, unfolding(rules::specs::Maps::shadow_address))]
+fn shadow_address(map: Map, address: u64) -> u64
+    requires { map.offset < 2 ^ 63 }
+    ensures { result ≡ shadow_address map address }
+{
+    address / (GRANULE as u64) + map.offset
+}
+
+#[tactic(auto, unfolding(rules::specs::Maps::map_call))]
 fn through(map: Map, address: u64) -> Mapped
-    requires { (map.offset < 2 ^ 63) × Published map }
+    requires { map.offset < 2 ^ 63 }
     ensures { result ≡ map_call map address }
 {
-    let shadow = address / (GRANULE as u64) + map.offset;
-    mapped(region_of(map, address), shadow)
+    mapped(region_of(map, address), shadow_address(map, address))
 }
 
 pub fn map32(address: u64) -> Mapped
