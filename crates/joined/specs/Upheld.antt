@@ -4,7 +4,7 @@
 -- is said of what the program has in its hands: its text, the bytes that its feeds wrote, its session, shadow and
 -- table.
 use Rattle.std.specs.Prelude.{ℕ, ◌≡◌, true, false, List, [], ◌∷◌, ◌++◌, length}
-use Rattle.std.proofs.Math.Option.{some}
+use Rattle.std.specs.Prelude.{Some}
 use Rattle.rules.specs.Release.{Pool}
 use Rattle.rules.specs.Feed.{State, run}
 use Rattle.rules.specs.Watcher.{watcher}
@@ -44,7 +44,7 @@ pub record Upheld (p : Program) : Type 0 where
   pub reported : (before after : List Exchange) (x : Exchange) → log p taken ≡ before ++ (x ∷ after)
       → (a n : ℕ) → Touches x a n → ReportedBy (happened before).live a n x
   pub first_bad_byte : (before after : List Exchange) (x : Exchange) → log p taken ≡ before ++ (x ∷ after)
-      → (a n : ℕ) → Touches x a n → status_of x ≡ some 9 → First (happened before).live a n x
+      → (a n : ℕ) → Touches x a n → status_of x ≡ Some 9 → First (happened before).live a n x
   -- a redzone apart, and from both ends
   pub a_redzone_apart :
       SeparatedIn p.opened.session.granules p.opened.session.redzone p.end.ran.state.pool.table

@@ -11,14 +11,15 @@ ghost use Rattle.rules.specs.Calls.{Lent};
 
 use blocks::rows;
 use rules::limits::{GRANULE, LIVE};
-use rules::{Answer, Found, Frame, Row, Session, Verdict};
+use rules::{Answer, Asked, Frame, Refusal, Row, Session};
 use shadow::range;
 
 // A size of 0 counts as 1.
+#[tactic(auto, unfolding(rules::specs::Grant::counted))]
 fn counted(size: u32) -> u32
     ensures { result ≡ counted size }
 {
-    if size == 0 { 1 } else { size }
+    size.max(1)
 }
 
 // The row of a block of so many bytes, granted at a granule.
@@ -39,19 +40,13 @@ pub fn grant(session: Session, shadow: &mut [u8], table: &mut [u32], size: u32) 
     ensures { acted result shadow.new table.new
         ≡ grant session.redzone shadow.old table.old size }
 {
-    let Found::One(row) = rows::empty_row(table) else {
-        return Answer::NoRow;
-    };
+    let row = rows::empty_row(table).ok_or(Refusal::NoRow)?;
     let asked = counted(size);
     let granules = paint::granules_of(asked);
-    let Found::One(place) = places::place(shadow, session.redzone, granules) else {
-        return Answer::NoPlace;
-    };
+    let place = places::place(shadow, session.redzone, granules).ok_or(Refusal::NoPlace)?;
     paint::grant(shadow, place, asked);
     rows::put_row(table, row, granted_row(place as u32, asked));
-    Answer::Done {
-        value: (GRANULE * place) as u32,
-    }
+    Ok((GRANULE * place) as u32)
 }
 
 // The value is how many are evicted.
@@ -64,30 +59,32 @@ pub fn release(session: Session, shadow: &mut [u8], table: &mut [u32], address: 
 }
 
 // Reads and writes are judged alike.
+#[tactic(auto, unfolding(rules::specs::Watcher::access, rules::specs::Watcher::of_verdict))]
 pub fn access(shadow: &[u8], address: u32, bytes: u32) -> Answer
     requires { length shadow.now ≤ most_granules }
     ensures { result ≡ access shadow.now address bytes }
 {
-    let Verdict::Bad { kind, first } = range::judge(shadow, address, bytes) else {
-        return Answer::Done { value: 0 };
-    };
-    Answer::NotGood {
-        kind,
-        first: first as u32,
+    match range::judge(shadow, address, bytes) {
+        Ok(()) => Ok(0),
+        Err(bad) => Err(Refusal::NotGood {
+            kind: bad.kind,
+            first: bad.first as u32,
+        }),
     }
 }
 
 // What a line asks, done; a line that asks nothing is answered with its refusal.
-pub fn act(session: Session, shadow: &mut [u8], table: &mut [u32], frame: Frame) -> Answer
+#[tactic(auto, unfolding(rules::specs::Watcher::act))]
+pub fn act(session: Session, shadow: &mut [u8], table: &mut [u32], asked: Asked) -> Answer
     requires { Lent session shadow.old table.old }
     ensures { acted result shadow.new table.new
-        ≡ act session shadow.old table.old frame }
+        ≡ act session shadow.old table.old asked }
 {
-    match frame {
+    match asked? {
         Frame::Grant { size } => grant(session, shadow, table, size),
         Frame::Release { address } => release(session, shadow, table, address),
-        Frame::Read { address, length } => access(shadow, address, length),
-        Frame::Write { address, length } => access(shadow, address, length),
-        Frame::Refused(answer) => answer,
+        Frame::Read { address, length } | Frame::Write { address, length } => {
+            access(shadow, address, length)
+        }
     }
 }

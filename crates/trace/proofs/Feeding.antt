@@ -9,10 +9,9 @@ use mathlib.Core.List.{List, [], ◌∷◌, ◌++◌, append_assoc, append-nil}
 use lib.ListN.{length, get_or, take, drop, length-append, length-drop, drop_of_length-le}
 use lib.Seq.{length-take-le, drop-cons}
 use borrow.Author.Tests.{ne_eqb, lt-ltb, le-ltb}
+use Rattle.std.specs.Prelude.{Ok}
 use Rattle.rules.specs.declared.Session.{Session}
 use Rattle.rules.specs.declared.Fed.{Fed}
-use Rattle.rules.specs.declared.Answer.TheVariants.{Done}
-use Rattle.rules.specs.declared.CallAnswer.TheVariants.{Answered}
 use Rattle.rules.specs.Limits.{line_feed, answer_bytes}
 use Rattle.rules.specs.Answers.{call_status}
 use Rattle.rules.specs.Put.{put}
@@ -182,7 +181,7 @@ module _ {start : State Pool} {piece room_before : List ℕ} {st : State Pool} {
   abbrev given : ℕ → Fed
   given done = record { session = st.session; status = done; taken = i; wrote = w }
 
-  stops : (done : ℕ) → done ≡ call_status (Answered (Done 0)) → taken (drop i piece) left ≡ 0
+  stops : (done : ℕ) → done ≡ call_status (Ok (Ok 0)) → taken (drop i piece) left ≡ 0
       → fed (given done) st.pool.shadow st.pool.table room ≡ fed_of start piece room_before
   stops done is_done none =
       let n : ℕ = taken piece (length room_before) in
@@ -196,18 +195,18 @@ module _ {start : State Pool} {piece room_before : List ℕ} {st : State Pool} {
       st.pool.table (put room_before 0 f.report) in
       ap (fed (given done) st.pool.shadow st.pool.table) f.room_is
       ∙ ap (λ a. handed a i w) is_done
-      ∙ ap (λ b. handed (call_status (Answered (Done 0))) b w) (sym all)
-      ∙ ap (handed (call_status (Answered (Done 0))) n) (sym f.wrote)
+      ∙ ap (λ b. handed (call_status (Ok (Ok 0))) b w) (sym all)
+      ∙ ap (handed (call_status (Ok (Ok 0))) n) (sym f.wrote)
       ∙ ap (λ r. fed_with r n room_before) (sym ran)
 
   -- the piece ends
-  pub feeding_end : (done : ℕ) → done ≡ call_status (Answered (Done 0)) → length piece ≤ i
+  pub feeding_end : (done : ℕ) → done ≡ call_status (Ok (Ok 0)) → length piece ≤ i
       → fed (given done) st.pool.shadow st.pool.table room ≡ fed_of start piece room_before
   feeding_end done is_done past =
       stops done is_done (ap (λ l. taken l left) (drop_of_length-le piece {i = i} past) ∙ taken_nil left)
 
   -- a line feed, and no room for its answer
-  pub feeding_full : (done : ℕ) → done ≡ call_status (Answered (Done 0))
+  pub feeding_full : (done : ℕ) → done ≡ call_status (Ok (Ok 0))
       → i < length piece → get_or piece i 0 ≡ line_feed → left < answer_bytes
       → fed (given done) st.pool.shadow st.pool.table room ≡ fed_of start piece room_before
   feeding_full done is_done below is_feed full =

@@ -9,7 +9,7 @@ ghost use Rattle.trace.specs.Feed.{Finishing, ran, fed, fed_of};
 
 use frames::lines;
 use rules::limits::{ANSWER_BYTES, LINE_FEED};
-use rules::{Answer, CallAnswer, Fed, Session};
+use rules::{Fed, Session};
 
 // A finished line is acted on and answered in the 13 bytes lent, and its session has an empty line.
 pub fn finish(session: Session, shadow: &mut [u8], table: &mut [u32], part: &mut [u8]) -> Session
@@ -17,9 +17,8 @@ pub fn finish(session: Session, shadow: &mut [u8], table: &mut [u32], part: &mut
     ensures { ran result shadow.new table.new part.new
         ≡ finish watcher (state_of session shadow.old table.old) }
 {
-    let line = session.line;
-    let frame = lines::frame_of_line(session.unfinished, line);
-    let answer = pool::act(session, shadow, table, frame);
+    let asked = lines::frame_of_line(session.unfinished, session.line);
+    let answer = pool::act(session, shadow, table, asked);
     answers::put_answer(part, answer);
     session::emptied(session)
 }
@@ -37,25 +36,22 @@ pub fn feed(
         ≡ fed_of (state_of session shadow.old table.old)
         piece.now room.old }
 {
-    let done = Answer::Done { value: 0 };
-    let status = answers::call_status_of(CallAnswer::Answered(done));
+    let status = answers::call_status_of(Ok(Ok(0)));
     let mut current = session;
-    let mut taken = 0;
+    let mut taken = piece.len();
     let mut wrote = 0;
-    while taken < piece.len() {
-        let byte = piece[taken];
+    for (at, &byte) in piece.iter().enumerate() {
         if byte != LINE_FEED {
             current = session::lengthened(current, byte);
-            taken += 1;
             continue;
         }
         if room.len() - wrote < ANSWER_BYTES {
+            taken = at;
             break;
         }
         let end = wrote + ANSWER_BYTES;
         current = finish(current, shadow, table, &mut room[wrote..end]);
         wrote = end;
-        taken += 1;
     }
     Fed {
         session: current,

@@ -7,10 +7,10 @@ use mathlib.Core.Logic.{◌≢◌}
 use mathlib.Core.List.{List, [], ◌∷◌}
 use lib.ListN.{length, take}
 use borrow.Author.Tests.{lt-ltb, le-ltb}
+use Rattle.std.specs.Prelude.{Ok, Err}
+use Rattle.rules.specs.declared.CallRefusal.TheVariants.{BadSession}
 use Rattle.rules.specs.declared.Session.{Session}
-use Rattle.rules.specs.declared.Answer.TheVariants.{Done}
-use Rattle.rules.specs.declared.CallAnswer.{CallAnswer}
-use Rattle.rules.specs.declared.CallAnswer.TheVariants.{Answered, BadSession}
+use Rattle.rules.specs.Answers.{CallAnswer}
 use Rattle.rules.specs.declared.Opened.{Opened}
 use Rattle.rules.specs.declared.Fed.{Fed}
 use Rattle.rules.specs.Limits.{too_long, line_feed, answer_bytes}
@@ -27,10 +27,10 @@ use Rattle.rules.proofs.Calls.{open_refused, within_true, grant_call_refused, re
 use Rattle.rules.proofs.Calls.{unfinished_done, feed_24, feed_done}
 use Rattle.watcher.specs.Calls.{OpenCall, GrantCall, ReleaseCall, UnfinishedCall, FeedCall}
 
-done_is : {m n : ℕ} → Path CallAnswer (Answered (Done m)) (Answered (Done n)) → m ≡ n
+done_is : {m n : ℕ} → Path CallAnswer (Ok (Ok m)) (Ok (Ok n)) → m ≡ n
 done_is e = cc
 
-done_not : {m : ℕ} → Path CallAnswer (Answered (Done m)) BadSession → ⊥
+done_not : {m : ℕ} → Path CallAnswer (Ok (Ok m)) (Err BadSession) → ⊥
 done_not e = let z : ◌≡◌ {A = ℕ} 0 1 = cc in omega arith
 
 -- 21, 22, 23
@@ -63,7 +63,7 @@ module _ {session : Session} {shadow table : List ℕ} {n : ℕ} {r : CallAnswer
 
 -- a length that is answered is 0 to 19
 module _ {session : Session} {n : ℕ} where
-  pub asked_length : UnfinishedCall session (Answered (Done n)) → n ≤ too_long
+  pub asked_length : UnfinishedCall session (Ok (Ok n)) → n ≤ too_long
   asked_length asks =
       by_test (within_limits session)
       (λ within.

@@ -1,11 +1,28 @@
 -- The statement of each public call: its result and every lent buffer as it leaves it are what the rule of `rules`
 -- says, for every input.
-use Rattle.std.specs.Prelude.{ℕ, ◌≡◌, List}
+use Rattle.std.specs.Prelude.{ℕ, ◌≡◌, true, false, List, Result, Ok, Err}
 use Rattle.rules.specs.declared.Session.{Session}
-use Rattle.rules.specs.declared.CallAnswer.{CallAnswer}
+use Rattle.rules.specs.Answers.{CallAnswer, opening_status}
+use Rattle.rules.specs.declared.CallRefusal.{CallRefusal}
+use Rattle.rules.specs.declared.CallRefusal.TheVariants.{BadSession}
+use Rattle.rules.specs.declared.OpeningRefusal.{OpeningRefusal}
 use Rattle.rules.specs.declared.Opened.{Opened}
 use Rattle.rules.specs.declared.Fed.{Fed}
-use Rattle.rules.specs.Calls.{open_with, grant_call, release_call, access_call, unfinished_call, feed}
+use Rattle.rules.specs.Calls.{OpenedWith, not_opened, open_with, fits_lent, grant_call, release_call, access_call}
+use Rattle.rules.specs.Calls.{unfinished_call, feed}
+
+-- whether a session fits what is lent, or the refusal 24
+unfoldable pub fits_or_refused : Session → List ℕ → List ℕ → Result Unit CallRefusal
+fits_or_refused session shadow table = elim (fits_lent session shadow table) [ true ↦ Ok tt | false ↦ Err BadSession ]
+
+-- an opening's session or its refusal, in what is handed back
+unfoldable pub opened_as : Result Session OpeningRefusal → List ℕ → List ℕ → OpenedWith
+opened_as (Ok session) shadow table = record {
+  given = record { session = session; status = opening_status (Ok tt) };
+  shadow = shadow;
+  table = table;
+}
+opened_as (Err refusal) shadow table = not_opened (Err refusal) shadow table
 
 pub record OpenCall (shadow_before table_before : List ℕ) (R Q : ℕ) (r : Opened)
     (shadow_after table_after : List ℕ) : Type 0 where

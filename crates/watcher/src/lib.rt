@@ -3,45 +3,66 @@
 #![tactic(auto)]
 
 ghost use Rattle.std.specs.Prelude.{◌≡◌};
-ghost use Rattle.rules.specs.Answers.{opening_status};
-ghost use Rattle.rules.specs.Calls.{closed};
+ghost use Rattle.rules.specs.Calls.{open_with};
+ghost use Rattle.watcher.specs.Calls.{fits_or_refused, opened_as};
 ghost use Rattle.watcher.specs.Calls.{OpenCall, GrantCall, ReleaseCall, AccessCall, UnfinishedCall, FeedCall};
 
 use blocks::rows;
 use rules::limits::{REDZONE_BYTE, ROW_NUMBERS};
-use rules::{Answer, CallAnswer, Fed, Opened, OpeningAnswer, Session};
+use rules::{CallAnswer, CallRefusal, Fed, Opened, OpeningRefusal, Session};
 
-fn not_opened(answer: OpeningAnswer) -> Opened
-    ensures { result ≡ record { session = closed; status = opening_status answer } }
+// 24 first, and it changes nothing.
+#[tactic(auto, unfolding(crate::specs::Calls::fits_or_refused))]
+fn fits(session: Session, shadow: &[u8], table: &[u32]) -> Result<(), CallRefusal>
+    ensures { result ≡ fits_or_refused session shadow.now table.now }
 {
-    Opened {
-        session: session::closed(),
-        status: answers::opening_status_of(answer),
+    if !session::fits_lent(session, shadow, table) {
+        return Err(CallRefusal::BadSession);
     }
+    Ok(())
 }
 
-// Refused 21, 22, 23 in that order, with the closed session and nothing written; else the shadow is fa throughout, the
-// table zeros, and the session fresh.
-pub fn open(shadow: &mut [u8], table: &mut [u32], redzone: usize, quarantine: u32) -> Opened
-    ensures { OpenCall shadow.old table.old redzone quarantine
-        result shadow.new table.new }
+// The session of a pool opened in what is lent: refused 21, 22, 23 in that order, with nothing written; else the shadow
+// is fa throughout, the table zeros, and the session fresh.
+fn opened(
+    shadow: &mut [u8],
+    table: &mut [u32],
+    redzone: usize,
+    quarantine: u32,
+) -> Result<Session, OpeningRefusal>
+    ensures { opened_as result shadow.new table.new
+        ≡ open_with shadow.old table.old redzone quarantine }
 {
     let granules = shadow.len();
     let numbers = table.len();
     if !session::granules_within(granules) {
-        return not_opened(OpeningAnswer::BadShadowLength);
+        return Err(OpeningRefusal::BadShadowLength);
     }
     if !session::redzone_within(redzone) {
-        return not_opened(OpeningAnswer::BadRedzone);
+        return Err(OpeningRefusal::BadRedzone);
     }
     if !session::table_length(numbers) {
-        return not_opened(OpeningAnswer::BadTableLength);
+        return Err(OpeningRefusal::BadTableLength);
     }
     paint::cover(shadow, REDZONE_BYTE);
     rows::clear(table);
-    Opened {
-        session: session::fresh(granules, numbers / ROW_NUMBERS, redzone, quarantine),
-        status: answers::opening_status_of(OpeningAnswer::Open),
+    Ok(session::fresh(granules, numbers / ROW_NUMBERS, redzone, quarantine))
+}
+
+// What C is handed of it: the status, and the session, closed where refused.
+pub fn open(shadow: &mut [u8], table: &mut [u32], redzone: usize, quarantine: u32) -> Opened
+    ensures { OpenCall shadow.old table.old redzone quarantine
+        result shadow.new table.new }
+{
+    match opened(shadow, table, redzone, quarantine) {
+        Ok(session) => Opened {
+            session,
+            status: answers::opening_status_of(Ok(())),
+        },
+        Err(refusal) => Opened {
+            session: session::closed(),
+            status: answers::opening_status_of(Err(refusal)),
+        },
     }
 }
 
@@ -50,10 +71,8 @@ pub fn grant(session: Session, shadow: &mut [u8], table: &mut [u32], size: u32) 
     ensures { GrantCall session shadow.old table.old size
         result shadow.new table.new }
 {
-    if !session::fits_lent(session, shadow, table) {
-        return CallAnswer::BadSession;
-    }
-    CallAnswer::Answered(pool::grant(session, shadow, table, size))
+    fits(session, shadow, table)?;
+    Ok(pool::grant(session, shadow, table, size))
 }
 
 // As the frame 02 answers.
@@ -61,10 +80,8 @@ pub fn release(session: Session, shadow: &mut [u8], table: &mut [u32], address: 
     ensures { ReleaseCall session shadow.old table.old address
         result shadow.new table.new }
 {
-    if !session::fits_lent(session, shadow, table) {
-        return CallAnswer::BadSession;
-    }
-    CallAnswer::Answered(pool::release(session, shadow, table, address))
+    fits(session, shadow, table)?;
+    Ok(pool::release(session, shadow, table, address))
 }
 
 // As the frames 03 and 04 answer: reads and writes are judged alike.
@@ -77,10 +94,8 @@ pub fn access(
 ) -> CallAnswer
     ensures { AccessCall session shadow.now table.now address length result }
 {
-    if !session::fits_lent(session, shadow, table) {
-        return CallAnswer::BadSession;
-    }
-    CallAnswer::Answered(pool::access(shadow, address, length))
+    fits(session, shadow, table)?;
+    Ok(pool::access(shadow, address, length))
 }
 
 // The length of the unfinished line, 0 to 19.
@@ -88,12 +103,9 @@ pub fn unfinished(session: Session) -> CallAnswer
     ensures { UnfinishedCall session result }
 {
     if !session::within_limits(session) {
-        return CallAnswer::BadSession;
+        return Err(CallRefusal::BadSession);
     }
-    let length = Answer::Done {
-        value: session.unfinished as u32,
-    };
-    CallAnswer::Answered(length)
+    Ok(Ok(session.unfinished as u32))
 }
 
 // Bytes are taken in order until the piece ends, or the next byte is a line feed and fewer than 13 bytes of room are
@@ -109,10 +121,10 @@ pub fn feed(
         piece.now room.old
         result shadow.new table.new room.new }
 {
-    if !session::fits_lent(session, shadow, table) {
+    if let Err(refusal) = fits(session, shadow, table) {
         return Fed {
             session,
-            status: answers::call_status_of(CallAnswer::BadSession),
+            status: answers::call_status_of(Err(refusal)),
             taken: 0,
             wrote: 0,
         };

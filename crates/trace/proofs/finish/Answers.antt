@@ -23,4 +23,4 @@ returns c =
     ∙ ap (λ s. ran s after.shadow after.table (answer_line c.act-answer.result)) c.emptied.ensures
     ∙ ap (finished (emptied session))
     (c.act-answer.ensures ∙ ap (act session c.args.shadow.now c.args.table.now)
-    c.frame_of_line-frame.ensures)
+    c.frame_of_line-asked.ensures)

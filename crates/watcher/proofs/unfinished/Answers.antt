@@ -9,8 +9,8 @@ returns-then-not-within_limits c =
     let session = c.args.session in
     record { answer = sym (unfinished_24 session (sym c.within_limits.ensures ∙ c.if-not-within_limits.true)) }
 
-pub overflow_cast-length : goal.overflow_cast-length
-overflow_cast-length c =
+pub overflow_cast-result : goal.overflow_cast-result
+overflow_cast-result c =
     let session = c.args.session in
     record {
       fits = omega (

@@ -1,0 +1,2 @@
+-- What a grant asks of the row and the place that were found.
+pub mod Granting
