@@ -1,2 +1,3 @@
--- Evictions, one at a time.
+-- The turns lessened row by row, and evictions one at a time.
+pub mod Lessening
 pub mod Settling

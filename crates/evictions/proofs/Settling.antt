@@ -1,116 +1,86 @@
--- Evictions one at a time: what is known before each, what one leaves, and that none is left to do exactly once the
--- weights are within the limit. Assumes nothing.
-use Prim.Native.Nat.{ℕ, suc, ◌+◌, ◌-◌, ◌≤◌, ◌<◌}
+-- Evictions one at a time: what one leaves, and that none is left to do exactly once the weights are within the limit.
+-- Assumes nothing.
+use Prim.Native.Nat.{ℕ, ◌+◌, ◌≤◌, ◌<◌}
 use native.Mathlib.Nat.{zero-add}
 use native.Mathlib.Omega.{arith}
 use mathlib.Core.Path.{◌≡◌, refl, sym, ap, ◌∙◌}
-use mathlib.Core.Option.{some, none, none-ne-some}
+use mathlib.Core.List.{List}
 use lib.ListN.{length}
-use Rattle.rules.specs.declared.Found.{Found}
-use Rattle.rules.specs.declared.Found.TheVariants.{One, Nothing}
+use Rattle.std.specs.Prelude.{Some, None}
 use Rattle.rules.specs.Limits.{redzone_byte}
-use Rattle.rules.specs.Table.{rows, size}
-use Rattle.rules.specs.Release.{in_quarantine, weight, weights, oldest, Pool, evict_row, evict_oldest, and_one_more}
+use Rattle.rules.specs.Put.{fill}
+use Rattle.rules.specs.Table.{rows, start, size, zero_row, put_row, lessened}
+use Rattle.rules.specs.Grant.{granules}
+use Rattle.rules.specs.Release.{weight, weights, oldest, Pool, Settled, paint_row, evict_row, evict_oldest}
 use Rattle.rules.specs.Release.{settle}
-use Rattle.rules.proofs.Lowest.{answered_one, answered_nothing}
-use Rattle.rules.proofs.Release.{Oldest, oldest_some, some_oldest, evict_row_length, evict_row_shadow, paint_row_length}
-use Rattle.rules.proofs.Release.{evict_row_weights, evict_oldest_is, evict_oldest_count, evicted_most, settle_done}
-use Rattle.rules.proofs.Release.{settle_more}
-use Rattle.evictions.specs.declared.Held.{Held}
-use Rattle.evictions.specs.Evictions.{settled, Next, EvictedRow, Weighed}
+use Rattle.rules.proofs.Release.{Oldest, oldest_some, evict_row_length, evict_row_weights, evict_oldest_is, weights_of}
+use Rattle.rules.proofs.Release.{evicted_most, settle_done, settle_more}
+use Rattle.blocks.proofs.Survey.{oldest_below}
+use Rattle.evictions.specs.Evictions.{pool, settled}
 
--- between two evictions: as long as at the start, the weights and the next row known, and what is left to do is what
--- was to do, less what is done
-pub record Settling (R Q : ℕ) (start here : Pool) (weight· : ℕ) (next : Found) (evicted : ℕ) : Type 0 where
-  pub shadow_length : length here.shadow ≡ length start.shadow
-  pub table_length : length here.table ≡ length start.table
-  pub weight_is : weight· ≡ weights R here.table
-  pub next_is : Next here.table next
-  pub rest : settle R Q start ≡ settled (settle R Q here).pool.shadow (settle R Q here).pool.table
-      (evicted + (settle R Q here).evicted)
+-- ---- one eviction
 
--- before the first
-pub settling_start : {R : ℕ} (Q : ℕ) (start : Pool) {held : Held} → Weighed R start.table held
-    → Settling R Q start start held.weight held.oldest 0
-settling_start {R} Q start w = record {
-  shadow_length = refl;
-  table_length = refl;
-  weight_is = w.weight_is;
-  next_is = w.oldest_is;
-  rest = ap (settled (settle R Q start).pool.shadow (settle R Q start).pool.table)
-      (sym (zero-add (settle R Q start).evicted));
-}
+pub evict_row_is : (shadow table : List ℕ) (i : ℕ) → evict_row (pool shadow table) i
+    ≡ pool (fill shadow (start table i) (granules (size table i)) redzone_byte)
+    (lessened (put_row table i zero_row) (rows table))
+unfolding evict_row paint_row
+evict_row_is shadow table i = refl
 
-module _ {R Q : ℕ} {start here : Pool} {weight· : ℕ} {next : Found} {evicted : ℕ}
-    (s : Settling R Q start here weight· next evicted) where
-  -- once the weights are within the limit, all is done
-  pub settling_done : weight· ≤ Q → settled here.shadow here.table evicted ≡ settle R Q start
-  settling_done light =
-      let done : settle R Q here ≡ record { pool = here; evicted = 0 } =
-      settle_done R Q here (omega (arith, s.weight_is)) in
-      let none_left : evicted + 0 ≡ evicted = omega arith in
-      sym
-      (s.rest
-      ∙ ap (λ t. settled t.pool.shadow t.pool.table (evicted + t.evicted)) done
-      ∙ ap (settled here.shadow here.table) none_left)
+-- the row to evict is in the quarantine, and weighs no more than all
+pub oldest_weight : (R : ℕ) (table : List ℕ) (i : ℕ) → oldest table (rows table) ≡ Some i
+    → weight R (size table i) ≤ weights R table
+oldest_weight R table i is =
+    let o = oldest_some table (rows table) i is in
+    weights_of R table i o.below o.held
 
-  module _ (heavy· : Q < weight·) where
-    heavy : Q < weights R here.table
-    heavy = omega (arith, s.weight_is)
+module _ (R : ℕ) (before : Pool) where
+  pub none_evicted : oldest before.table (rows before.table) ≡ None → evict_oldest before ≡ before
+  unfolding evict_oldest
+  none_evicted nothing = rw (nothing, evict_oldest)
 
-    -- until then a row is quarantined
-    pub settling_never : next ≡ Nothing → ⊥
-    settling_never nothing =
-        let none· : oldest here.table (rows here.table) ≡ none =
-        answered_nothing (oldest here.table (rows here.table)) (sym nothing ∙ s.next_is) in
-        none-ne-some (some_oldest R Q here.table heavy).0
-        (sym none· ∙ (some_oldest R Q here.table heavy).1)
+  module _ (i : ℕ) (is : oldest before.table (rows before.table) ≡ Some i) where
+    evicted_row : Oldest before.table (rows before.table) i
+    evicted_row = oldest_some before.table (rows before.table) i is
 
-    -- one more is to be evicted, and no more than there are rows
-    pub settling_count : evicted + 1 ≤ rows start.table
-    settling_count =
-        let more : (settle R Q here).evicted ≡ (settle R Q (evict_oldest here)).evicted + 1 =
-        ap (λ t. t.evicted) (settle_more R Q here heavy) in
-        omega (arith, ap (λ t. t.evicted) s.rest, evicted_most R Q start)
+    pub evicted_is : evict_row before i ≡ evict_oldest before
+    evicted_is = sym (evict_oldest_is before i is)
 
-    module _ (i : ℕ) (is : next ≡ One i) where
-      found_row : oldest here.table (rows here.table) ≡ some i
-      found_row = answered_one (oldest here.table (rows here.table)) i (sym is ∙ s.next_is)
+    pub evicted_length : length (evict_row before i).table ≡ length before.table
+    evicted_length = evict_row_length before i evicted_row.below
 
-      -- and it is the oldest
-      pub settling_row : Oldest here.table (rows here.table) i
-      settling_row = oldest_some here.table (rows here.table) i found_row
+    pub evicted_weights : weights R before.table ≡ weights R (evict_row before i).table + weight R (size before.table i)
+    evicted_weights = evict_row_weights before i evicted_row.below R evicted_row.held
 
-      -- it weighs no more than all
-      pub settling_weight : weight· ≡ weights R (evict_row here i).table + weight R (size here.table i)
-      settling_weight = s.weight_is ∙ evict_row_weights here i settling_row.below R settling_row.held
+-- ---- all of them
 
-      -- with each eviction one fewer is quarantined
-      pub settling_less : in_quarantine here.table ≡ suc (in_quarantine (evict_row here i).table)
-      settling_less =
-          evict_oldest_count R Q here heavy ∙ ap (λ p. suc (in_quarantine p.table))
-          (evict_oldest_is here i found_row)
+-- so many evictions, and then those
+unfoldable pub later : ℕ → Settled → Settled
+later n t = record { pool = t.pool; evicted = n + t.evicted }
 
-      -- after it
-      pub settling_next : (after : Pool) (next' : Found) → EvictedRow here i after next'
-          → Settling R Q start after (weight· - weight R (size here.table i)) next' (evicted + 1)
-      settling_next after next' e =
-          let left : settle R Q here ≡ and_one_more (settle R Q after) =
-          settle_more R Q here heavy ∙ ap (λ p. and_one_more (settle R Q p))
-          (evict_oldest_is here i found_row ∙ sym e.pool_after) in
-          let regrouped : evicted + ((settle R Q after).evicted + 1) ≡ evicted + 1 + (settle R Q after).evicted =
-          omega arith in
-          record {
-            shadow_length =
-                ap (λ p. length p.shadow) e.pool_after ∙ ap length (evict_row_shadow here i)
-                ∙ paint_row_length here i redzone_byte ∙ s.shadow_length;
-            table_length =
-                ap (λ p. length p.table) e.pool_after ∙ evict_row_length here i settling_row.below
-                ∙ s.table_length;
-            weight_is = omega (arith, settling_weight, ap (λ p. weights R p.table) e.pool_after);
-            next_is = e.oldest_next;
-            rest =
-                s.rest
-                ∙ ap (λ t. settled t.pool.shadow t.pool.table (evicted + t.evicted)) left
-                ∙ ap (settled (settle R Q after).pool.shadow (settle R Q after).pool.table) regrouped;
-          }
+module _ (R Q : ℕ) (start : Pool) where
+  pub rest_start : settle R Q start ≡ later 0 (settle R Q start)
+  unfolding later
+  rest_start = ap (settled (settle R Q start).pool.shadow (settle R Q start).pool.table)
+      (sym (zero-add (settle R Q start).evicted))
+
+  module _ (here : Pool) (n : ℕ) (rest : settle R Q start ≡ later n (settle R Q here)) where
+    -- once the weights are within the limit, all is done
+    pub rest_done : weights R here.table ≤ Q → settled here.shadow here.table n ≡ settle R Q start
+    unfolding later
+    rest_done light =
+        sym (rest ∙ ap (later n) (settle_done R Q here light) ∙ ap (settled here.shadow here.table) (omega arith))
+
+    -- until then one more is evicted, and no more than there are rows
+    pub rest_next : Q < weights R here.table → settle R Q start ≡ later (n + 1) (settle R Q (evict_oldest here))
+    unfolding later
+    rest_next heavy =
+        let left : Settled = settle R Q (evict_oldest here) in
+        rest ∙ ap (later n) (settle_more R Q here heavy) ∙ ap (settled left.pool.shadow left.pool.table) (omega arith)
+
+    pub rest_most : Q < weights R here.table → n < rows start.table
+    unfolding later
+    rest_most heavy = omega (arith, ap (λ t. t.evicted) (rest_next heavy), evicted_most R Q start)
+
+pub ruleset one_evicted = (oldest_below, oldest_weight, none_evicted, evicted_is, evicted_length, evicted_weights)
+
+pub ruleset all_evicted = (rest_start, rest_done)
