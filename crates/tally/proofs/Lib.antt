@@ -1,3 +1,3 @@
--- What an answer adds to a tally, a report taken in parts, and what a verdict of 0 means.
-pub mod Counting
+-- A report taken in parts, and what a verdict means.
+pub mod Parts
 pub mod Judged

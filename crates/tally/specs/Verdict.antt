@@ -5,6 +5,7 @@ use Rattle.rules.specs.Answers.{status}
 use Rattle.rules.specs.Release.{Pool}
 use Rattle.rules.specs.Feed.{State, act_line, run}
 use Rattle.rules.specs.Watcher.{watcher}
+use Rattle.tally.specs.declared.Outcome.{Outcome}
 use Rattle.tally.specs.Tally.{none, with_report, verdict}
 
 -- every line of the text was done, and none is left unfinished
@@ -14,6 +15,6 @@ pub record Passed (st : State Pool) (text : List ℕ) : Type 0 where
   pub finished : (run watcher st text).state.session.unfinished ≡ 0
 
 -- the verdict of a text from a state
-unfoldable pub judged : State Pool → List ℕ → ℕ
+unfoldable pub judged : State Pool → List ℕ → Outcome
 judged st text =
     verdict (with_report none (run watcher st text).report) (run watcher st text).state.session.unfinished

@@ -2,20 +2,32 @@
 #![tactic(auto)]
 
 ghost use Rattle.std.specs.Prelude.{◌≡◌};
-ghost use Rattle.tally.specs.Tally.{none, more, counted_as, status_at, counted, with_answer, with_report};
+ghost use Rattle.tally.specs.Tally.{none, counted_as, status_at, counted, first_after, with_answer, with_report};
 ghost use Rattle.tally.specs.Tally.{verdict};
 
 use rules::Found;
 use rules::limits::{ANSWER_BYTES, ANSWER_STATUS_END};
+
+// A line that was not done: its number, from 1, and its answer's, where that is 00 to 09.
+#[derive(Clone, Copy)]
+pub struct NotDone {
+    pub line: u64,
+    pub status: Option<u8>,
+}
 
 #[derive(Clone, Copy)]
 pub struct Tally {
     pub lines: u64,
     // of the numbers 00 to 09
     pub answers: [u64; 10],
-    // the first line that was not done, from 1, or 0; and its answer's number
-    pub first: u64,
-    pub answered: u8,
+    pub first: Option<NotDone>,
+}
+
+#[derive(Clone, Copy)]
+pub enum Outcome {
+    // every line was done, and none is left unfinished
+    Pass,
+    Fail,
 }
 
 pub fn none() -> Tally
@@ -24,107 +36,85 @@ pub fn none() -> Tally
     Tally {
         lines: 0,
         answers: [0; 10],
-        first: 0,
-        answered: 0,
+        first: None,
     }
 }
 
-// One more, as far as 64 bits count.
-fn more(count: u64) -> u64
-    ensures { result ≡ more count }
-{
-    if count < u64::MAX {
-        return count + 1;
-    }
-    count
-}
-
-// A number from 0 to 9, or 10 for any other and for none.
-fn counted_as(found: Found) -> u8
+// A number from 0 to 9.
+#[tactic(auto, unfolding(crate::specs::Tally::counted_as))]
+fn counted_as(found: Found) -> Option<u8>
     ensures { result ≡ counted_as found }
 {
-    let Found::One(status) = found else {
-        return 10;
-    };
-    if status < 10 {
-        return status as u8;
+    match found {
+        Found::One(status) if status < 10 => Some(status as u8),
+        _ => None,
     }
-    10
 }
 
-// The number of the answer that begins at `at`, 00 to 09; 10 where it is another, or where no answer stands.
-pub fn status_at(report: &[u8], at: usize) -> u8
+// The number of the answer that begins at `at`, if it is one of 00 to 09.
+#[tactic(auto, unfolding(crate::specs::Tally::status_at, crate::specs::Tally::status_in, rules::specs::Hex::read_field))]
+pub fn status_at(report: &[u8], at: usize) -> Option<u8>
     ensures { result ≡ status_at report.now at }
 {
-    let length = report.len();
-    if length <= at {
-        return 10;
-    }
-    if length - at < ANSWER_STATUS_END {
-        return 10;
-    }
-    counted_as(hexadecimal::number(&report[at..at + ANSWER_STATUS_END]))
+    let status = report.get(at..)?.get(..ANSWER_STATUS_END)?;
+    counted_as(hexadecimal::number(status))
 }
 
-fn counted(counts: [u64; 10], status: u8) -> [u64; 10]
+#[tactic(auto, unfolding(crate::specs::Tally::counted, crate::specs::Tally::more))]
+fn counted(counts: [u64; 10], status: Option<u8>) -> [u64; 10]
     ensures { result ≡ counted counts status }
 {
     let mut next = counts;
-    let at = status as usize;
-    if at < 10 {
-        next[at] = more(counts[at]);
+    if let Some(status @ 0..10) = status {
+        let at = status as usize;
+        next[at] = next[at].saturating_add(1);
     }
     next
 }
 
+// The first line that was not done, once `line` has this answer.
+#[tactic(auto, unfolding(crate::specs::Tally::first_after))]
+fn first_after(first: Option<NotDone>, line: u64, status: Option<u8>) -> Option<NotDone>
+    ensures { result ≡ first_after first line status }
+{
+    match (first, status) {
+        (None, Some(0)) => None,
+        (None, _) => Some(NotDone { line, status }),
+        _ => first,
+    }
+}
+
 // With an answer of this number.
-fn with_answer(tally: Tally, status: u8) -> Tally
+#[tactic(auto, unfolding(crate::specs::Tally::with_answer, crate::specs::Tally::more))]
+fn with_answer(tally: Tally, status: Option<u8>) -> Tally
     ensures { result ≡ with_answer tally status }
 {
-    let lines = more(tally.lines);
-    let counts = tally.answers;
-    let answers = counted(counts, status);
-    if tally.first == 0 {
-        if status != 0 {
-            return Tally {
-                lines,
-                answers,
-                first: lines,
-                answered: status,
-            };
-        }
-    }
+    let lines = tally.lines.saturating_add(1);
     Tally {
         lines,
-        answers,
-        first: tally.first,
-        answered: tally.answered,
+        answers: counted(tally.answers, status),
+        first: first_after(tally.first, lines, status),
     }
 }
 
 // With every answer of a part of the report.
+#[tactic(auto, using(crate::proofs::Parts::with_report_none, crate::proofs::Parts::with_report_next))]
 pub fn with_report(tally: Tally, report: &[u8]) -> Tally
     ensures { result ≡ with_report tally report.now }
 {
-    let answers = report.len() / ANSWER_BYTES;
     let mut counted = tally;
-    let mut i = 0;
-    while i < answers {
-        counted = with_answer(counted, status_at(report, ANSWER_BYTES * i));
-        i += 1;
+    for answer in report.chunks_exact(ANSWER_BYTES) {
+        counted = with_answer(counted, status_at(answer, 0));
     }
     counted
 }
 
-// 0 where every line was done and none is left unfinished, else 1.
-pub fn verdict(tally: Tally, unfinished: u32) -> u8
+#[tactic(auto, unfolding(crate::specs::Tally::verdict, crate::specs::Tally::outcome))]
+pub fn verdict(tally: Tally, unfinished: u32) -> Outcome
     ensures { result ≡ verdict tally unfinished }
 {
-    if tally.first != 0 {
-        return 1;
+    match (tally.first, unfinished) {
+        (None, 0) => Outcome::Pass,
+        _ => Outcome::Fail,
     }
-    if unfinished != 0 {
-        return 1;
-    }
-    0
 }

@@ -1,12 +1,11 @@
--- `tally::with_report` meets its contract. The invariant: the answers before `i` are counted. The measure is what is
--- left of them. Assumes nothing.
-use Prim.Native.Nat.{◌≤◌, ◌-◌}
-use mathlib.Core.Path.{◌≡◌}
-use Rattle.tally.specs.Tally.{with_answers}
+-- The invariant: what is counted, with what is left of the report, is the tally with the whole report.
+use Rattle.std.proofs.Common.{◌≡◌}
+use Rattle.std.specs.Slice.Iter.{chunks_exact_rest, chunks_exact_size}
+use Rattle.rules.specs.Limits.{answer_bytes}
+use Rattle.tally.specs.Tally.{with_report}
 use Rattle.tally.proofs.with_report.Given as goal
 
-abbrev pub invariant-loop-i : goal.invariant-loop-i
-invariant-loop-i l = (l.i ≤ l.answers) × (l.counted ≡ with_answers l.initial.counted l.report l.i)
-
-abbrev pub decreases-loop-i : goal.decreases-loop-i
-decreases-loop-i l = l.answers - l.i
+abbrev pub invariant-loop-answer : goal.invariant-loop-answer
+invariant-loop-answer l =
+    (chunks_exact_size l.answer-iterator ≡ answer_bytes)
+    × (with_report l.counted (chunks_exact_rest l.answer-iterator) ≡ with_report l.fn.tally l.fn.report)
