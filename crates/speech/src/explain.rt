@@ -1,102 +1,102 @@
 // A sentence for a line that was not done: its number, what it asked, what was wrong, and at which byte.
-use crate::{say, words};
+use crate::say;
+use crate::say::Count;
+use crate::words::{Kind, Status};
 use frames::lines;
 use rules::limits::{ANSWER_KIND_END, ANSWER_STATUS_END, ANSWER_VALUE_END, TOO_LONG};
 use rules::{Found, Frame, Session};
+use std::fmt;
 
-fn access(err: &impl Print, noun: &[u8], address: u32, length: u32) {
-    say::text(err, noun);
-    say::count(err, length as u64, b"byte");
-    say::text(err, b" at address ");
-    say::address(err, address);
-}
+// Bytes as they were read or written, where one that cannot be printed is a dot.
+#[derive(Clone, Copy)]
+struct Seen<'a>(&'a [u8]);
 
-// A byte that cannot be printed is a dot.
-fn seen(byte: u8) -> u8 {
-    if (0x20 <= byte) & (byte < 0x7f) {
-        return byte;
-    }
-    b'.'
-}
-
-// The bytes of an unfinished line, of which no more than 18 are kept.
-fn kept(err: &impl Print, line: [u8; 18], length: usize) {
-    let mut i = 0;
-    while i < 18 {
-        if i == length {
-            return;
+impl fmt::Display for Seen<'_> {
+    fn fmt<W: fmt::Write>(&self, f: &mut fmt::Formatter<W>) -> fmt::Result {
+        for byte in self.0 {
+            match *byte {
+                b' '..=b'~' => f.write_char(char::from(*byte))?,
+                _ => f.write_char('.')?,
+            }
         }
-        say::text(err, &[seen(line[i])]);
-        i += 1;
+        Ok(())
     }
 }
 
-fn as_it_stands(err: &impl Print, session: Session) {
-    let length = session.unfinished;
-    let line = session.line;
+// A line that asked nothing, as it stands; no more than 18 of its bytes are kept.
+fn unread<W: fmt::Write>(f: &mut fmt::Formatter<W>, length: usize, line: [u8; 18]) -> fmt::Result {
+    let kept = Seen(&line[..length.min(18)]);
     if length < TOO_LONG {
-        say::count(err, length as u64, b"byte");
-        say::text(err, b", \"");
-    } else {
-        say::text(err, b"19 bytes or more, beginning \"");
+        let bytes = Count(length as u64, "byte");
+        return write!(f, "{bytes}, \"{kept}\"");
     }
-    kept(err, line, length);
-    say::text(err, b"\"");
+    write!(f, "19 bytes or more, beginning \"{kept}\"")
 }
 
-// What the line asked, or the line as it stands where it asked nothing.
-fn asked(err: &impl Print, session: Session) {
-    let line = session.line;
-    match lines::frame_of_line(session.unfinished, line) {
-        Frame::Grant { size } => {
-            say::text(err, b"grant of ");
-            say::count(err, size as u64, b"byte");
+fn access<W: fmt::Write>(
+    f: &mut fmt::Formatter<W>,
+    noun: &str,
+    address: u32,
+    length: u32,
+) -> fmt::Result {
+    let bytes = Count(length as u64, "byte");
+    write!(f, "{noun} of {bytes} at address {address:08x}")
+}
+
+// What the line asked that the session holds, or the line itself where it asked nothing.
+#[derive(Clone, Copy)]
+struct Asked(Session);
+
+impl fmt::Display for Asked {
+    fn fmt<W: fmt::Write>(&self, f: &mut fmt::Formatter<W>) -> fmt::Result {
+        let length = self.0.unfinished;
+        let line = self.0.line;
+        match lines::frame_of_line(length, line) {
+            Frame::Grant { size } => write!(f, "grant of {}", Count(size as u64, "byte")),
+            Frame::Release { address } => write!(f, "release of address {address:08x}"),
+            Frame::Read { address, length } => access(f, "read", address, length),
+            Frame::Write { address, length } => access(f, "write", address, length),
+            Frame::Refused(_) => unread(f, length, line),
         }
-        Frame::Release { address } => {
-            say::text(err, b"release of address ");
-            say::address(err, address);
-        }
-        Frame::Read { address, length } => access(err, b"read of ", address, length),
-        Frame::Write { address, length } => access(err, b"write of ", address, length),
-        Frame::Refused(_) => as_it_stands(err, session),
     }
 }
 
 // The first bad byte and its kind, from an answer's digits.
-fn first_bad(err: &impl Print, answer: &[u8]) {
-    if answer.len() < ANSWER_VALUE_END {
-        return;
-    }
-    let value = &answer[ANSWER_KIND_END..ANSWER_VALUE_END];
-    let kind = &answer[ANSWER_STATUS_END..ANSWER_KIND_END];
-    say::text(err, b"not good: first bad byte ");
-    say::text(err, value);
-    say::text(err, b", kind ");
-    say::text(err, kind);
-    say::text(err, b": ");
-    let Found::One(kind) = hexadecimal::number(kind) else {
-        return;
+fn first_bad<W: fmt::Write>(f: &mut fmt::Formatter<W>, answer: &[u8]) -> fmt::Result {
+    let Some(value) = answer.get(ANSWER_KIND_END..ANSWER_VALUE_END) else {
+        return Ok(());
     };
-    words::of_kind(err, (kind % 256) as u8);
+    let digits = &answer[ANSWER_STATUS_END..ANSWER_KIND_END];
+    let value = Seen(value);
+    let kind = Seen(digits);
+    write!(f, "not good: first bad byte {value}, kind {kind}: ")?;
+    match hexadecimal::number(digits) {
+        Found::One(kind) => write!(f, "{}", Kind((kind % 256) as u8)),
+        Found::Nothing => Ok(()),
+    }
+}
+
+// What was wrong, by an answer's number and its digits.
+#[derive(Clone, Copy)]
+struct Wrong<'a>(Status, &'a [u8]);
+
+impl fmt::Display for Wrong<'_> {
+    fn fmt<W: fmt::Write>(&self, f: &mut fmt::Formatter<W>) -> fmt::Result {
+        match self.0 {
+            Status(9) => first_bad(f, self.1),
+            status => f.write_str(status.meaning()),
+        }
+    }
 }
 
 // Of the line that the session held when its line feed came, and its answer.
 pub fn answered(err: &impl Print, number: u64, session: Session, answer: &[u8]) {
     let status = tally::status_at(answer, 0);
-    if status == 0 {
+    if let Some(0) = status {
         return;
     }
-    say::text(err, b"line ");
-    say::number(err, number);
-    say::text(err, b": ");
-    asked(err, session);
-    say::text(err, b": ");
-    say::status(err, status);
-    say::text(err, b", ");
-    if status == 9 {
-        first_bad(err, answer);
-    } else {
-        words::of(err, status);
-    }
-    say::text(err, b"\n");
+    let status = Status::from(status);
+    let asked = Asked(session);
+    let wrong = Wrong(status, answer);
+    say::text(err, format_args!("line {number}: {asked}: {status}, {wrong}\n"));
 }

@@ -1,63 +1,37 @@
-// Words and numbers on standard error, whose handle is passed down. That a write there fails has nowhere to be said.
-ghost use Rattle.std.specs.Prelude.{◌≤◌, length};
-
+// What is said on standard error, whose handle is passed down.
+use std::fmt;
 use std::fmt::Display;
 use std::io;
 use std::io::Write;
+use std::str;
 
-pub fn text(err: &impl Print, words: &[u8]) {
-    let _ = err.write_all(words);
-}
-
-fn value(err: &impl Print, value: impl Display + Drop) {
-    let _ = err.print(value);
-}
-
-pub fn number(err: &impl Print, number: u64) {
-    value(err, number);
-}
-
-pub fn address(err: &impl Print, address: u32) {
-    value(err, format_args!("{address:08x}"));
-}
-
-// Two digits, and decimal: 24 is twenty-four.
-pub fn status(err: &impl Print, status: u8) {
-    value(err, format_args!("{status:02}"));
+// That a write there fails has nowhere to be said.
+pub fn text(err: &impl Print, text: impl Display + Drop) {
+    let _ = err.print(text);
 }
 
 // "1 line", "2 lines".
-pub fn count(err: &impl Print, count: u64, noun: &[u8]) {
-    number(err, count);
-    text(err, b" ");
-    text(err, noun);
-    if count != 1 {
-        text(err, b"s");
+#[derive(Clone, Copy)]
+pub struct Count<'a>(pub u64, pub &'a str);
+
+impl fmt::Display for Count<'_> {
+    fn fmt<W: fmt::Write>(&self, f: &mut fmt::Formatter<W>) -> fmt::Result {
+        let Count(count, noun) = *self;
+        let plural = if count == 1 { "" } else { "s" };
+        write!(f, "{count} {noun}{plural}")
     }
 }
 
-// Where the system's own words end, after which an error shows its number: "Broken pipe (os error 32)".
-fn words_end(shown: &[u8]) -> usize
-    ensures { result ≤ length shown.now }
-{
-    let mut end = 0;
-    while end < shown.len() {
-        if (shown[end] == 0) | shown[end..].starts_with(b" (os error ") {
-            return end;
-        }
-        end += 1;
-    }
-    end
+fn before<'a>(text: &'a str, mark: &str) -> &'a str {
+    text.split_once(mark).map_or(text, |(front, _)| front)
 }
 
-// What failed, and why, in the system's words.
-pub fn failure(err: &impl Print, what: &[u8], error: io::Error) {
+// What failed, and why, in the system's own words, after which an error shows its number: "Broken pipe (os error 32)".
+pub fn failure(err: &impl Print, what: &str, error: io::Error) {
     let mut shown = [0u8; 256];
     let mut room = &mut shown[..];
     let _ = write!(room, "{error}");
-    let end = words_end(&shown);
-    text(err, what);
-    text(err, b": ");
-    text(err, &shown[..end]);
-    text(err, b"\n");
+    let words = before(str::from_utf8(&shown).unwrap_or_default(), "\0");
+    let reason = before(words, " (os error ");
+    text(err, format_args!("{what}: {reason}\n"));
 }
