@@ -2,34 +2,27 @@
 use Prim.Native.Nat.{ℕ}
 use native.Mathlib.Omega.{arith}
 use mathlib.Core.Bool.{true}
-use mathlib.Core.Path.{◌≡◌, refl, sym, ap, ◌∙◌}
+use mathlib.Core.Path.{◌≡◌, sym, ap, ◌∙◌}
 use mathlib.Core.List.{List}
-use borrow.Author.Tests.{eq-eqb, ne_eqb}
+use borrow.Author.Tests.{eq-eqb}
 use Rattle.rules.specs.declared.Session.{Session}
-use Rattle.rules.specs.declared.Reply.{Reply}
 use Rattle.rules.specs.declared.Answer.TheVariants.{Done}
-use Rattle.rules.specs.Limits.{too_long}
 use Rattle.rules.specs.Answers.{in_numbers, call_in_numbers}
 use Rattle.rules.specs.Release.{Pool}
 use Rattle.rules.specs.Watcher.{state_of, watcher}
 use Rattle.rules.specs.Calls.{within_limits, fits_lent, unfinished_call}
 use Rattle.rules.specs.Feed.{State, run}
-use Rattle.rules.proofs.Tests.{if_true, if_false}
+use Rattle.rules.proofs.Tests.{if_true}
 use Rattle.rules.proofs.Calls.{within_is, unfinished_done, lent_true, run_lent}
+use Rattle.std.specs.Prelude.{Result, Ok, Err}
+use Rattle.tally.specs.declared.Outcome.{Outcome}
+use Rattle.tally.specs.declared.Outcome.TheVariants.{Pass, Fail}
 use Rattle.tally.specs.Tally.{none, with_report, verdict}
 use Rattle.tally.specs.Verdict.{Passed, judged}
 use Rattle.tally.proofs.Judged.{passed, not_passed}
 use Rattle.offers.specs.declared.offer.Run.{Run}
-use Rattle.offers.specs.Offer.{Leads, left, Ends}
-
-module _ (session : Session) (reply : Reply) (is : reply ≡ call_in_numbers (unfinished_call session)) where
-  pub left_unsaid : (reply.status ≡ 0 → ⊥) → too_long ≡ left session
-  unfolding left
-  left_unsaid refused = sym (if_false _ _ (ne_eqb _ _ (λ done. refused (ap (λ r. r.status) is ∙ done))))
-
-  pub left_said : reply.status ≡ 0 → reply.value ≡ left session
-  unfolding left
-  left_said done = ap (λ r. r.value) is ∙ sym (if_true _ _ (eq-eqb _ _ (sym (ap (λ r. r.status) is) ∙ done)))
+use Rattle.offers.specs.declared.offer.Stopped.{Stopped}
+use Rattle.offers.specs.Offer.{Leads, left, Ends, told}
 
 -- a session within its limits says how long its line is
 left_within : (session : Session) → within_limits session ≡ true → left session ≡ session.unfinished
@@ -39,15 +32,18 @@ left_within session within =
     ap call_in_numbers (unfinished_done session within) in
     if_true _ _ (eq-eqb _ _ (ap (λ r. r.status) is)) ∙ ap (λ r. r.value) is
 
--- an error is neither verdict
-pub ends_stopped : (ran : Run) → Ends ran 2
-ends_stopped ran = record { passed = λ e. absurd (omega (arith, e)); not_passed = λ e. absurd (omega (arith, e)) }
+-- 0 is told of a pass alone, and 1 of a fail
+told_pass : (run : Run) (r : Result Outcome Stopped) → Ends run r → told r ≡ 0
+    → verdict run.tally (left run.session) ≡ Pass
+told_pass run (Ok Pass) ends e = sym ends
+told_pass run (Ok Fail) ends e = absurd (omega arith)
+told_pass run (Err stopped) ends e = absurd (omega arith)
 
-pub ends_judged : (ran : Run) (r length : ℕ) → ran.whole ≡ true → length ≡ left ran.session → r
-    ≡ verdict ran.tally length → Ends ran r
-ends_judged ran r length whole is judged =
-    let verdict_is : r ≡ verdict ran.tally (left ran.session) = judged ∙ ap (verdict ran.tally) is in
-    record { passed = λ e. (whole, sym verdict_is ∙ e); not_passed = λ e. (whole, sym verdict_is ∙ e) }
+told_fail : (run : Run) (r : Result Outcome Stopped) → Ends run r → told r ≡ 1
+    → verdict run.tally (left run.session) ≡ Fail
+told_fail run (Ok Pass) ends e = absurd (omega arith)
+told_fail run (Ok Fail) ends e = sym ends
+told_fail run (Err stopped) ends e = absurd (omega arith)
 
 -- ---- the verdict of all that was offered
 
@@ -69,14 +65,16 @@ module _ (begun : Run) {shadow table text shadow_after table_after : List ℕ} {
       ∙ ap (verdict (with_report none (run watcher st text).report))
       (left_within there (within_is there lent.within))
 
-  -- so a verdict of 0 is of a text whose every line was done, and whose last line is finished
-  pub ended_passed : begun.tally ≡ none → fits_lent begun.session shadow table ≡ true
-      → Leads begun shadow table text ran shadow_after table_after
-      → Ends ran 0 → Passed (state_of begun.session shadow table) text
-  ended_passed fresh fits leads ends = passed _ text (sym (ended fresh fits leads) ∙ (ends.passed refl).1)
+  module _ (r : Result Outcome Stopped) where
+    -- so 0 is told of a text whose every line was done, and whose last line is finished
+    pub ended_passed : begun.tally ≡ none → fits_lent begun.session shadow table ≡ true
+        → Leads begun shadow table text ran shadow_after table_after
+        → Ends ran r → told r ≡ 0 → Passed (state_of begun.session shadow table) text
+    ended_passed fresh fits leads ends e = passed _ text (sym (ended fresh fits leads) ∙ told_pass ran r ends e)
 
-  -- and one of 1 is not
-  pub ended_not_passed : begun.tally ≡ none → fits_lent begun.session shadow table ≡ true
-      → Leads begun shadow table text ran shadow_after table_after
-      → Ends ran 1 → Passed (state_of begun.session shadow table) text → ⊥
-  ended_not_passed fresh fits leads ends = not_passed _ text (sym (ended fresh fits leads) ∙ (ends.not_passed refl).1)
+    -- and 1 is told of one that is not
+    pub ended_not_passed : begun.tally ≡ none → fits_lent begun.session shadow table ≡ true
+        → Leads begun shadow table text ran shadow_after table_after
+        → Ends ran r → told r ≡ 1 → Passed (state_of begun.session shadow table) text → ⊥
+    ended_not_passed fresh fits leads ends e =
+        not_passed _ text (sym (ended fresh fits leads) ∙ told_fail ran r ends e)

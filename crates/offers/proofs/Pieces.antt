@@ -1,11 +1,12 @@
 -- What a feed's answer leads to, and a piece taken part by part. Assumes nothing.
-use Prim.Native.Nat.{ℕ, ◌+◌, ◌≤◌}
+use Prim.Native.Nat.{ℕ, ◌-◌}
 use native.Mathlib.Omega.{arith}
-use mathlib.Core.Path.{◌≡◌, refl, sym, ap, subst, ◌∙◌}
-use mathlib.Core.Bool.{Bool, true, false}
+use mathlib.Core.Path.{◌≡◌, refl, sym, ap, ap₂, subst, ◌∙◌}
+use mathlib.Core.Bool.{true}
 use mathlib.Core.List.{List, [], ◌++◌}
-use lib.ListN.{length, take, drop, length-take}
-use lib.Seq.{take-append_seam, take-add, take_all, take-take}
+use lib.ListN.{length, take, drop, length-take, length-drop}
+use lib.Seq.{take-append_seam, take-take, take_all}
+use Rattle.std.proofs.lemmas.List.{take-append-drop, nil_from_length}
 use Rattle.rules.specs.declared.Session.{Session}
 use Rattle.rules.specs.declared.Fed.{Fed}
 use Rattle.rules.specs.Release.{Pool}
@@ -16,16 +17,12 @@ use Rattle.rules.specs.Calls.{FedWith, fits_lent, feed}
 use Rattle.rules.proofs.Tests.{by_test}
 use Rattle.rules.proofs.Feed.{run_append, run_report, line_feeds}
 use Rattle.rules.proofs.Calls.{feed_done, feed_24}
-use Rattle.tally.specs.Tally.{with_answers_zero, with_report}
-use Rattle.tally.proofs.Judged.{with_report_append}
+use Rattle.tally.specs.Tally.{with_report}
+use Rattle.tally.proofs.Parts.{with_report_append, with_report_none}
 use Rattle.watcher.proofs.Calls.{feed_call_whole}
 use Rattle.watcher.specs.Calls.{FeedCall}
 use Rattle.offers.specs.declared.offer.Run.{Run}
 use Rattle.offers.specs.Offer.{Kept, Leads, Taken}
-
--- an error that was said is no whole run
-pub never {ℓ} : {P : Type ℓ} {b : Bool} → b ≡ false → b ≡ true → P
-never stopped whole = absurd (subst (λ b. elim b as (λ _. Type 0) [ true ↦ ⊥ | false ↦ Unit ]) (sym stopped ∙ whole) tt)
 
 -- ---- what a feed's answer leads to
 
@@ -64,10 +61,10 @@ abbrev by_rule : Fed → List ℕ → List ℕ → List ℕ → FedWith Pool
 by_rule given shadow table room = record { given = given; pool = pool_of shadow table; room = room }
 
 module _ (before : Run) {shadow table part room shadow_after table_after room_after : List ℕ} {fed : Fed} where
-  pub kept_taken : {r : Run}
+  pub kept_taken : {r : Run} {took : ℕ}
       → FeedCall before.session shadow table part room fed shadow_after table_after room_after
-      → Kept before fed (length part) room_after r
-      → Taken before shadow table part r shadow_after table_after
+      → Kept before fed (length part) room_after r took
+      → Taken before shadow table part r took shadow_after table_after
   kept_taken {r = r} f kept =
       let st : State Pool = state_of before.session shadow table in
       let is : by_rule fed shadow_after table_after room_after ≡ feed before.session shadow table part room =
@@ -76,7 +73,7 @@ module _ (before : Run) {shadow table part room shadow_after table_after room_af
       subst (Runs st part) (sym is) (ran before.session shadow table part room
       (sym (ap (λ f. f.given.status) is) ∙ kept.done))
       in
-      let bytes : fed.taken ≡ r.taken = sym kept.taken in
+      let bytes = sym kept.taken_is in
       record {
         some = omega (arith, kept.some, bytes);
         most = omega (arith, kept.most, bytes);
@@ -90,14 +87,15 @@ module _ (before : Run) {shadow table part room shadow_after table_after room_af
 
 -- ---- a piece taken part by part
 
-pub leads_nothing : (before : Run) (shadow table piece : List ℕ)
-    → Leads before shadow table (take 0 piece) before shadow table
-unfolding with_report
-leads_nothing before shadow table piece = record {
-  state = sym (ap (λ r. r.state) (run_nil watcher (state_of before.session shadow table)));
-  tally = sym (ap (λ r. with_report before.tally r.report)
-      (run_nil watcher (state_of before.session shadow table)) ∙ with_answers_zero before.tally []);
-}
+pub leads_nothing : (before : Run) (shadow table text : List ℕ) → length text ≡ 0
+    → Leads before shadow table text before shadow table
+leads_nothing before shadow table text none =
+    let st : State Pool = state_of before.session shadow table in
+    rw (nil_from_length text none) record {
+      state = sym (ap (λ r. r.state) (run_nil watcher st));
+      tally = sym (ap (λ r. with_report before.tally r.report) (run_nil watcher st)
+          ∙ with_report_none before.tally [] (omega arith));
+    }
 
 module _ (before : Run) {shadow table shadow_mid table_mid shadow_after table_after : List ℕ} {mid r : Run}
     (first second : List ℕ) where
@@ -120,23 +118,16 @@ module _ (before : Run) {shadow table shadow_mid table_mid shadow_after table_af
             ∙ sym (ap (λ r. with_report before.tally r.report) whole);
       }
 
--- n bytes of a part of the piece that begins at `at`
-pub leads_further : (before : Run) {shadow table shadow_mid table_mid shadow_after table_after : List ℕ} {mid r : Run}
-    (piece : List ℕ) (at m n : ℕ)
-    → n ≤ length (take m (drop at piece)) → Leads before shadow table (take at piece) mid shadow_mid table_mid
-    → Leads mid shadow_mid table_mid (take n (take m (drop at piece))) r shadow_after table_after
-    → Leads before shadow table (take (at + n) piece) r shadow_after table_after
-leads_further before {shadow} {table} {shadow_mid} {table_mid} {shadow_after} {table_after} {mid}
-    {r} piece at m n within one two =
-    let same : take n (take m (drop at piece)) ≡ take n (drop at piece) =
-    take-take n m (drop at piece) (omega (arith, length-take m (drop at piece))) in
-    subst (λ text. Leads before shadow table text r shadow_after table_after) (sym (take-add at n piece))
-    (leads_append before (take at piece) (take n (drop at piece)) one
-    (subst (λ text. Leads mid shadow_mid table_mid text r shadow_after table_after) same two))
-
-pub leads_whole : (before : Run) {shadow table shadow_after table_after : List ℕ} {r : Run} (piece : List ℕ) (at : ℕ)
-    → length piece ≤ at
-    → Leads before shadow table (take at piece) r shadow_after table_after
-    → Leads before shadow table piece r shadow_after table_after
-leads_whole before {shadow} {table} {shadow_after} {table_after} {r} piece at all =
-    subst (λ text. Leads before shadow table text r shadow_after table_after) (take_all at piece all)
+-- some of the first m bytes that are left, and then the rest, as `&left[n..]` says it
+pub leads_on : (before : Run) {shadow table shadow_mid table_mid shadow_after table_after : List ℕ} {mid r : Run}
+    (left : List ℕ) (m n : ℕ)
+    → Taken before shadow table (take m left) mid n shadow_mid table_mid
+    → Leads mid shadow_mid table_mid (take (length left - n) (drop n left)) r shadow_after table_after
+    → Leads before shadow table left r shadow_after table_after
+leads_on before {shadow} {table} {shadow_mid} {table_mid} {shadow_after} {table_after} {mid} {r} left m n taken two =
+    let within = take-take n m left (omega (arith, taken.most, length-take m left)) in
+    let rest = take_all (length left - n) (drop n left) (omega (arith, length-drop n left)) in
+    let same : take n (take m left) ++ take (length left - n) (drop n left) ≡ left =
+    ap₂ ◌++◌ within rest ∙ take-append-drop n left in
+    subst (λ text. Leads before shadow table text r shadow_after table_after) same
+    (leads_append before (take n (take m left)) (take (length left - n) (drop n left)) taken.leads two)

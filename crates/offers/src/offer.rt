@@ -1,181 +1,146 @@
 // Offering a piece of the trace to the watcher until all of it is taken, the report written as it comes.
-ghost use Rattle.std.specs.Prelude.{◌<◌, ◌≤◌, ◌≡◌, true, false, length};
+ghost use Rattle.std.specs.Prelude.{◌<◌, ◌≤◌, length, IfOk};
 ghost use Rattle.offers.specs.Offer.{Kept, Leads, Taken};
 
 use rules::limits::LINE_FEED;
 use rules::{Fed, Session};
+use speech::say::Failure;
+use speech::words::Status;
 use speech::{explain, say};
+use std::fmt::Display;
 use tally::Tally;
+
+pub(crate) const UNWRITTEN: &str = "the report cannot be written";
 
 // Where a replay stands.
 #[derive(Clone, Copy)]
 pub struct Run {
-    // whether there may be more to read
-    pub going: bool,
-    // whether all that was read was answered and written
-    pub whole: bool,
-    pub explain: bool,
-    pub progress: bool,
     pub session: Session,
     pub tally: Tally,
-    // bytes taken by the latest feed
-    pub taken: usize,
 }
 
-pub fn begun(session: Session, explain: bool, progress: bool) -> Run {
+// An error ended the replay, and has been said, since only `said` makes one.
+#[derive(Clone, Copy)]
+pub struct Stopped(());
+
+impl Stopped {
+    pub fn said(err: &impl Print, words: impl Display + Drop) -> Stopped {
+        say::text(err, format_args!("kinkhost: {words}\n"));
+        Stopped(())
+    }
+}
+
+// Where the report goes, where all else is said, and what of that is asked for.
+#[derive(Drop)]
+pub struct Streams<'a, O, E> {
+    pub out: &'a O,
+    pub err: &'a E,
+    // a sentence for each line that is not done
+    pub explain: bool,
+    pub progress: bool,
+}
+
+// What the watcher is lent: the pool's shadow and table, and room for a report.
+#[derive(Drop)]
+pub struct Lent<'a> {
+    pub shadow: &'a mut [u8],
+    pub table: &'a mut [u32],
+    pub room: &'a mut [u8],
+}
+
+pub fn begun(session: Session) -> Run {
     Run {
-        going: true,
-        whole: true,
-        explain,
-        progress,
         session,
         tally: tally::none(),
-        taken: 0,
     }
 }
 
-pub fn ended(run: Run) -> Run {
-    let mut next = run;
-    next.going = false;
-    next
-}
-
-// At an error, which has been said.
-pub fn stopped(run: Run) -> Run
-    ensures { result.whole ≡ false }
+// How much is offered next. To explain a line, its bytes are looked at before its line feed is offered, alone.
+fn part_end(left: &[u8], explain: bool) -> usize
+    requires { 0 < length left.now }
+    ensures { (0 < result) × (result ≤ length left.now) }
 {
-    let mut next = run;
-    next.going = false;
-    next.whole = false;
-    next
-}
-
-// Where the next part that is offered ends. To explain a line, its bytes are looked at before its line feed is offered,
-// alone.
-fn part_end(piece: &[u8], at: usize, explain: bool) -> usize
-    requires { at < length piece.now }
-    ensures { (at < result) × (result ≤ length piece.now) }
-{
-    let end = piece.len();
     if !explain {
-        return end;
+        return left.len();
     }
-    let mut to = at + 1;
-    if piece[at] == LINE_FEED {
-        return to;
-    }
-    while to < end {
-        if piece[to] == LINE_FEED {
-            return to;
-        }
-        to += 1;
-    }
-    to
+    left.iter()
+        .position(|byte| *byte == LINE_FEED)
+        .map_or(left.len(), |end| end.max(1))
 }
 
-// A feed that is refused, takes nothing, or says that it took or wrote more than there is: none of these can be, by its
-// contract and the room that is lent.
-fn not_taken(err: &impl Print, run: Run, status: u8) -> Run
-    ensures { result.whole ≡ false }
+// What a feed answered of so many bytes: its report is written and counted. With it, how many bytes were taken.
+fn after(
+    streams: &Streams<'_, impl Print, impl Print>,
+    run: Run,
+    fed: Fed,
+    offered: usize,
+    room: &[u8],
+) -> Result<(Run, usize), Stopped>
+    ensures { IfOk result (λ r. Kept run fed offered room.now r.0 r.1) }
 {
-    say::text(err, b"kinkhost: the watcher does not take the trace, ");
-    say::status(err, status);
-    say::text(err, b"\n");
-    stopped(run)
-}
-
-// What a feed answered of so many bytes: its report is written and counted.
-fn after(out: &impl Print, err: &impl Print, run: Run, fed: Fed, offered: usize, room: &[u8]) -> Run
-    ensures { result.whole ≡ true → Kept run fed offered room.now result }
-{
-    let taken = fed.taken;
-    let wrote = fed.wrote;
-    if fed.status != 0 {
-        return not_taken(err, run, fed.status);
+    // none of these can be, by the watcher's contract and the room that is lent
+    if fed.status != 0 || fed.taken == 0 || fed.taken > offered || fed.wrote > room.len() {
+        let status = Status(fed.status);
+        let words = format_args!("the watcher does not take the trace, {status}");
+        return Err(Stopped::said(streams.err, words));
     }
-    if taken == 0 {
-        return not_taken(err, run, fed.status);
-    }
-    if offered < taken {
-        return not_taken(err, run, fed.status);
-    }
-    if room.len() < wrote {
-        return not_taken(err, run, fed.status);
-    }
-    if let Err(error) = out.write_all(&room[0..wrote]) {
-        say::failure(err, b"kinkhost: the report cannot be written", error);
-        return stopped(run);
-    }
-    let session = fed.session;
-    let before = run.tally;
-    Run {
-        going: true,
-        whole: true,
-        explain: run.explain,
-        progress: run.progress,
-        session,
-        tally: tally::with_report(before, &room[0..wrote]),
-        taken,
-    }
+    let report = &room[..fed.wrote];
+    let written = streams.out.write_all(report);
+    written.map_err(|error| Stopped::said(streams.err, Failure(UNWRITTEN, error)))?;
+    let next = Run {
+        session: fed.session,
+        tally: tally::with_report(run.tally, report),
+    };
+    Ok((next, fed.taken))
 }
 
 // A line feed that is offered alone has one answer, which the room begins with.
-fn explained(err: &impl Print, run: Run, asked: Session, part: &[u8], room: &[u8]) {
-    if !run.explain | !run.whole {
-        return;
-    }
-    if part.len() == 1 {
-        if part[0] == LINE_FEED {
-            let tally = run.tally;
-            explain::answered(err, tally.lines, asked, room);
-        }
+fn explained(
+    streams: &Streams<'_, impl Print, impl Print>,
+    line: u64,
+    asked: Session,
+    part: &[u8],
+    room: &[u8],
+) {
+    if let (true, [LINE_FEED]) = (streams.explain, part) {
+        explain::answered(streams.err, line, asked, room);
     }
 }
 
 // A part of the trace is offered once.
 fn feed(
-    out: &impl Print,
-    err: &impl Print,
+    streams: &Streams<'_, impl Print, impl Print>,
+    lent: &mut Lent<'_>,
     run: Run,
-    shadow: &mut [u8],
-    table: &mut [u32],
     part: &[u8],
-    room: &mut [u8],
-) -> Run
-    ensures { result.whole ≡ true
-        → Taken run shadow.old table.old part.now result shadow.new
-        table.new }
+) -> Result<(Run, usize), Stopped>
+    ensures { IfOk result (λ r. Taken run lent.old.shadow.now lent.old.table.now part.now r.0 r.1
+        lent.new.shadow.now lent.new.table.now) }
 {
     let asked = run.session;
-    let fed = watcher::feed(asked, shadow, table, part, room);
-    let next = after(out, err, run, fed, part.len(), room);
-    explained(err, next, asked, part, room);
-    next
+    let fed = watcher::feed(asked, lent.shadow, lent.table, part, lent.room);
+    let (next, taken) = after(streams, run, fed, part.len(), lent.room)?;
+    explained(streams, next.tally.lines, asked, part, lent.room);
+    Ok((next, taken))
 }
 
 // All of a piece. Where all of it was written, session, shadow, table and tally are those of the rules over the piece.
 pub fn all(
-    out: &impl Print,
-    err: &impl Print,
+    streams: &Streams<'_, impl Print, impl Print>,
+    lent: &mut Lent<'_>,
     run: Run,
-    shadow: &mut [u8],
-    table: &mut [u32],
     piece: &[u8],
-    room: &mut [u8],
-) -> Run
-    ensures { result.whole ≡ true
-        → Leads run shadow.old table.old piece.now result shadow.new
-        table.new }
+) -> Result<Run, Stopped>
+    ensures { IfOk result (λ r. Leads run lent.old.shadow.now lent.old.table.now piece.now r
+        lent.new.shadow.now lent.new.table.now) }
 {
     let mut run = run;
-    let mut at = 0;
-    while at < piece.len() {
-        let to = part_end(piece, at, run.explain);
-        run = feed(out, err, run, shadow, table, &piece[at..to], room);
-        if !run.whole {
-            return run;
-        }
-        at += run.taken;
+    let mut left = piece;
+    while !left.is_empty() {
+        let end = part_end(left, streams.explain);
+        let (next, taken) = feed(streams, lent, run, &left[..end])?;
+        run = next;
+        left = &left[taken..];
     }
-    run
+    Ok(run)
 }

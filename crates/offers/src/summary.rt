@@ -1,16 +1,18 @@
 // What is said of a replay as it goes and at its end: lines, answers by number, the first line that was not done, and
 // the verdict.
 ghost use Rattle.std.specs.Prelude.{◌≡◌};
-ghost use Rattle.offers.specs.Offer.{left, Ends};
+ghost use Rattle.offers.specs.Offer.{left, Ends, told};
 
-use crate::offer::Run;
+use crate::offer::{Run, Stopped, Streams, UNWRITTEN};
 use rules::Session;
-use speech::{say, words};
+use speech::say;
+use speech::say::{Count, Failure};
+use speech::words::Status;
 use std::fs::OpenFile;
 use std::os::unix::fs::FileTypeExt;
 use std::rt::Files;
 use std::{fs, io};
-use tally::Tally;
+use tally::{Outcome, Tally};
 
 // What the report is written to, by the system's name for it.
 const REPORT: &str = "/dev/stdout";
@@ -22,47 +24,35 @@ const NO_SPACE: i32 = 28;
 
 const OVER_QUOTA: i32 = 122;
 
-fn answers(err: &impl Print, status: u8, count: u64) {
-    if count == 0 {
-        return;
-    }
-    say::text(err, b"  ");
-    say::status(err, status);
-    say::text(err, b": ");
-    say::number(err, count);
-    say::text(err, b", ");
-    words::of(err, status);
-    say::text(err, b"\n");
-}
-
 fn by_number(err: &impl Print, counts: [u64; 10]) {
-    let mut i = 0;
-    while i < 10 {
-        answers(err, i as u8, counts[i]);
-        i += 1;
+    for (number, count) in counts.iter().enumerate() {
+        if *count != 0 {
+            let status = Status(number as u8);
+            let meaning = status.meaning();
+            say::text(err, format_args!("  {status}: {count}, {meaning}\n"));
+        }
     }
 }
 
 // The line that a reader looks for.
 fn outcome(err: &impl Print, tally: Tally, left: u32) {
-    if tally.first != 0 {
-        say::text(err, b"first line not done: ");
-        say::number(err, tally.first);
-        say::text(err, b", answered ");
-        say::status(err, tally.answered);
-        say::text(err, b"\n");
-        return;
-    }
-    if tally.lines != 0 {
-        say::text(err, b"every line was done\n");
-        return;
-    }
-    if left == 0 {
-        say::text(err, b"the trace is empty\n");
+    match tally.first {
+        Some(first) => {
+            let line = first.line;
+            let status = Status::from(first.status);
+            say::text(
+                err,
+                format_args!("first line not done: {line}, answered {status}\n"),
+            );
+        }
+        None if tally.lines != 0 => say::text(err, "every line was done\n"),
+        None if left == 0 => say::text(err, "the trace is empty\n"),
+        None => {}
     }
 }
 
 // The unfinished line's length; 19 stands for 19 or more, and for a session that cannot say, which none here is.
+#[tactic(auto, unfolding(crate::specs::Offer::left))]
 fn unfinished(session: Session) -> u32
     ensures { result ≡ left session }
 {
@@ -78,27 +68,22 @@ fn not_acted_on(err: &impl Print, length: u32) {
     if length == 0 {
         return;
     }
-    say::text(err, b"the trace ends in an unfinished line of ");
-    say::count(err, length as u64, b"byte");
-    if length == 19 {
-        say::text(err, b" or more");
-    }
-    say::text(err, b", which was not acted on\n");
-}
-
-fn lines(err: &impl Print, count: u64) {
-    say::text(err, b"kinkhost: ");
-    say::count(err, count, b"line");
+    let bytes = Count(length as u64, "byte");
+    let more = if length == 19 { " or more" } else { "" };
+    say::text(
+        err,
+        format_args!(
+            "the trace ends in an unfinished line of {bytes}{more}, which was not acted on\n"
+        ),
+    );
 }
 
 // Each ten thousand lines, on one line of a terminal, over which the next words are written.
-pub fn progress(err: &impl Print, run: Run, before: u64) {
-    let tally = run.tally;
-    if run.progress & run.whole {
-        if before / 10_000 < tally.lines / 10_000 {
-            lines(err, tally.lines);
-            say::text(err, b"\r");
-        }
+pub fn progress(streams: &Streams<'_, impl Print, impl Print>, run: Run, before: u64) {
+    let now = run.tally.lines;
+    if streams.progress && before / 10_000 < now / 10_000 {
+        let lines = Count(now, "line");
+        say::text(streams.err, format_args!("kinkhost: {lines}\r"));
     }
 }
 
@@ -106,7 +91,7 @@ pub fn progress(err: &impl Print, run: Run, before: u64) {
 // reach.
 fn reach(files: &impl Files) -> io::Result<()> {
     let kind = fs::metadata(files, REPORT)?.file_type();
-    if kind.is_file() | kind.is_block_device() {
+    if kind.is_file() || kind.is_block_device() {
         return fs::open(files, REPORT)?.sync_all();
     }
     Ok(())
@@ -120,37 +105,36 @@ fn is_lost(error: io::Error) -> bool {
     )
 }
 
-// Whether the report has reached its file; that it has not is said.
-fn reached(files: &impl Files, err: &impl Print) -> bool {
+// That the report has not reached its file is said.
+fn reached(files: &impl Files, err: &impl Print) -> Result<(), Stopped> {
     match reach(files) {
-        Err(error) if is_lost(error) => {
-            say::failure(err, b"kinkhost: the report cannot be written", error);
-            false
-        }
-        _ => true,
+        Err(error) if is_lost(error) => { Err(Stopped::said(err, Failure(UNWRITTEN, error))) }
+        _ => Ok(()),
     }
 }
 
-// 0: every line was done. 1: some line was not, or the last one is unfinished. 2: an error, which has been said.
-pub fn verdict(files: &impl Files, err: &impl Print, run: Run) -> u8
+// What is said at the end of a trace that was answered and written whole.
+pub fn verdict(files: &impl Files, err: &impl Print, run: Run) -> Result<Outcome, Stopped>
     ensures { Ends run result }
 {
-    let whole = run.whole;
-    if !whole {
-        return 2;
-    }
-    let kept = reached(files, err);
-    if !kept {
-        return 2;
-    }
+    reached(files, err)?;
     let tally = run.tally;
-    let counts = tally.answers;
-    let session = run.session;
-    lines(err, tally.lines);
-    say::text(err, b"\n");
-    by_number(err, counts);
-    let left = unfinished(session);
+    let left = unfinished(run.session);
+    let lines = Count(tally.lines, "line");
+    say::text(err, format_args!("kinkhost: {lines}\n"));
+    by_number(err, tally.answers);
     not_acted_on(err, left);
     outcome(err, tally, left);
-    tally::verdict(tally, left)
+    Ok(tally::verdict(tally, left))
+}
+
+// 0: every line was done. 1: some line was not, or the last one is unfinished. 2: an error, which has been said.
+pub fn told(ended: Result<Outcome, Stopped>) -> u8
+    ensures { result ≡ told ended }
+{
+    match ended {
+        Ok(Outcome::Pass) => 0,
+        Ok(Outcome::Fail) => 1,
+        Err(_) => 2,
+    }
 }

@@ -1,16 +1,13 @@
 // The arguments: nine decimal numbers.
-ghost use Rattle.std.specs.Prelude.{◌≤◌};
-
 use rules::limits::ANSWER_BYTES;
 use std::fs::OpenOptions;
-use std::io;
 use std::io::Write;
+use std::ops::RangeInclusive;
 use std::rt::{Env, Files};
+use std::{io, str};
 
 #[derive(Clone, Copy)]
 pub struct Options {
-    // whether each argument is there and a number that fits
-    pub right: bool,
     pub granules: usize,
     pub redzone: usize,
     pub quarantine: u32,
@@ -20,101 +17,54 @@ pub struct Options {
     pub room: usize,
     pub explain: bool,
     pub progress: bool,
-    // the descriptor that is told the verdict, or 0
-    pub verdict: i32,
 }
 
-// An argument that is a number, or none.
-#[derive(Clone, Copy)]
-struct Number {
-    right: bool,
-    value: u64,
-}
-
-const NONE: Number = Number {
-    right: false,
-    value: 0,
-};
-
-fn digit(byte: u8) -> u64 {
-    byte as u64 % 16
-}
-
-fn decimal(text: &[u8]) -> Number {
-    if text.len() == 0 {
-        return NONE;
+// Digits alone, and a number of no more than 19 of them.
+fn decimal(text: &[u8]) -> Option<u64> {
+    let digits = str::from_utf8(text).ok()?;
+    if digits.starts_with('+') {
+        return None;
     }
-    let mut value = 0;
-    let mut i = 0;
-    while i < text.len() {
-        let byte = text[i];
-        if (byte < b'0') | (b'9' < byte) {
-            return NONE;
-        }
-        if 999_999_999_999_999_999 < value {
-            return NONE;
-        }
-        value = value * 10 + digit(byte) % 10;
-        i += 1;
-    }
-    Number { right: true, value }
+    let number = digits.parse::<u64>().ok()?;
+    (number < 10_000_000_000_000_000_000).then_some(number)
 }
 
-fn argument(env: &impl Env, i: usize) -> Number {
+fn argument(env: &impl Env, i: usize) -> Option<u64> {
     let mut text = [0u8; 32];
-    match env.arg(i, &mut text) {
-        Ok(length) => decimal(&text[..length]),
-        Err(_) => NONE,
-    }
+    let length = env.arg(i, &mut text).ok()?;
+    decimal(&text[..length])
 }
 
-// The argument, where it lies within these.
-fn between(env: &impl Env, i: usize, least: u64, most: u64) -> Number {
-    let number = argument(env, i);
-    let right = number.right & (least <= number.value) & (number.value <= most);
-    Number {
-        right,
-        value: number.value,
-    }
+fn between(env: &impl Env, i: usize, limits: RangeInclusive<u64>) -> Option<u64> {
+    let number = argument(env, i)?;
+    limits.contains(&number).then_some(number)
 }
 
-pub fn at_most(number: usize, most: usize) -> usize
-    ensures { result ≤ most }
-{
-    if number <= most {
-        return number;
-    }
-    most
-}
-
-pub fn given(env: &impl Env) -> Options {
-    let granules = between(env, 1, 0, u64::MAX);
-    let redzone = between(env, 2, 0, u64::MAX);
-    let quarantine = between(env, 3, 0, 0xffff_ffff);
-    let rows = between(env, 4, 0, u64::MAX);
-    let piece = between(env, 5, 1, 65_536);
+// Nothing where an argument is missing, is no number, or does not fit.
+pub fn given(env: &impl Env) -> Option<Options> {
+    let granules = argument(env, 1)?;
+    let redzone = argument(env, 2)?;
+    let quarantine = argument(env, 3)?;
+    let rows = argument(env, 4)?;
+    let piece = between(env, 5, 1..=65_536)?;
     // an answer's bytes at least, or a line feed would never be taken
-    let room = between(env, 6, ANSWER_BYTES as u64, 65_536);
-    let explain = between(env, 7, 0, 1);
-    let progress = between(env, 8, 0, 1);
-    let verdict = between(env, 9, 0, 9);
-    let pool = granules.right & redzone.right & quarantine.right & rows.right;
-    let cutting = piece.right & room.right;
-    Options {
-        right: pool & cutting & explain.right & progress.right & verdict.right,
-        granules: granules.value as usize,
-        redzone: redzone.value as usize,
-        quarantine: (quarantine.value % 0x1_0000_0000) as u32,
-        numbers: at_most(rows.value as usize, 1_025) * 4,
-        piece: piece.value as usize,
-        room: room.value as usize,
-        explain: explain.value == 1,
-        progress: progress.value == 1,
-        verdict: (verdict.value % 10) as i32,
-    }
+    let room = between(env, 6, ANSWER_BYTES as u64..=65_536)?;
+    let explain = between(env, 7, 0..=1)?;
+    let progress = between(env, 8, 0..=1)?;
+    between(env, 9, 0..=9)?;
+    Some(Options {
+        granules: granules as usize,
+        redzone: redzone as usize,
+        quarantine: u32::try_from(quarantine).ok()?,
+        numbers: rows.min(1_025) as usize * 4,
+        piece: piece as usize,
+        room: room as usize,
+        explain: explain == 1,
+        progress: progress == 1,
+    })
 }
 
-// The system's names for the descriptors.
+// The system's names for the descriptors. A table, since no heap is there to format a name in.
 const DESCRIPTORS: [&str; 10] = [
     "/dev/fd/0",
     "/dev/fd/1",
@@ -128,22 +78,18 @@ const DESCRIPTORS: [&str; 10] = [
     "/dev/fd/9",
 ];
 
-fn write(files: &impl Files, path: &str, bytes: &[u8]) -> io::Result<()> {
-    OpenOptions::new()
-        .append(true)
-        .open(files, path)?
-        .write_all(bytes)
+fn write(files: &impl Files, path: &str, verdict: u8) -> io::Result<()> {
+    let mut file = OpenOptions::new().append(true).open(files, path)?;
+    writeln!(file, "{verdict}")
 }
 
-// The verdict, to whoever asked for it. The exit status is 0 whatever the verdict is.
-pub fn tell(rt: &(impl Print + Files), err: &impl Print, options: Options, verdict: u8) {
-    let words = [b'0' + verdict % 10, b'\n'];
-    if options.verdict <= 0 {
-        return;
-    }
-    let _ = match options.verdict {
-        1 => rt.write_all(&words),
-        2 => err.write_all(&words),
-        n => write(rt, DESCRIPTORS[n as usize % 10], &words),
+// The verdict, to the descriptor that asked for it, which is the last argument; 0 asks for none. The exit status is 0
+// whatever the verdict is.
+pub fn tell(rt: &(impl Env + Print + Files), err: &impl Print, verdict: u8) {
+    let _ = match argument(rt, 9).unwrap_or(0) % 10 {
+        0 => Ok(()),
+        1 => rt.println(verdict),
+        2 => err.println(verdict),
+        n => write(rt, DESCRIPTORS[n as usize], verdict),
     };
 }

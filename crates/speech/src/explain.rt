@@ -98,5 +98,8 @@ pub fn answered(err: &impl Print, number: u64, session: Session, answer: &[u8]) 
     let status = Status::from(status);
     let asked = Asked(session);
     let wrong = Wrong(status, answer);
-    say::text(err, format_args!("line {number}: {asked}: {status}, {wrong}\n"));
+    say::text(
+        err,
+        format_args!("line {number}: {asked}: {status}, {wrong}\n"),
+    );
 }

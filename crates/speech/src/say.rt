@@ -1,9 +1,7 @@
 // What is said on standard error, whose handle is passed down.
-use std::fmt;
 use std::fmt::Display;
-use std::io;
 use std::io::Write;
-use std::str;
+use std::{fmt, io, str};
 
 // That a write there fails has nowhere to be said.
 pub fn text(err: &impl Print, text: impl Display + Drop) {
@@ -27,11 +25,17 @@ fn before<'a>(text: &'a str, mark: &str) -> &'a str {
 }
 
 // What failed, and why, in the system's own words, after which an error shows its number: "Broken pipe (os error 32)".
-pub fn failure(err: &impl Print, what: &str, error: io::Error) {
-    let mut shown = [0u8; 256];
-    let mut room = &mut shown[..];
-    let _ = write!(room, "{error}");
-    let words = before(str::from_utf8(&shown).unwrap_or_default(), "\0");
-    let reason = before(words, " (os error ");
-    text(err, format_args!("{what}: {reason}\n"));
+#[derive(Clone, Copy)]
+pub struct Failure<'a>(pub &'a str, pub io::Error);
+
+impl fmt::Display for Failure<'_> {
+    fn fmt<W: fmt::Write>(&self, f: &mut fmt::Formatter<W>) -> fmt::Result {
+        let Failure(what, error) = *self;
+        let mut shown = [0u8; 256];
+        let mut room = &mut shown[..];
+        let _ = write!(room, "{error}");
+        let words = before(str::from_utf8(&shown).unwrap_or_default(), "\0");
+        let reason = before(words, " (os error ");
+        write!(f, "{what}: {reason}")
+    }
 }

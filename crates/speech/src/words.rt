@@ -50,7 +50,10 @@ impl fmt::Display for Kind {
             0xfd => write!(f, "released and quarantined"),
             0xff => write!(f, "outside the arena"),
             1 => write!(f, "only the first byte of its granule is addressable"),
-            first @ 2..=7 => write!(f, "only the first {first} bytes of its granule are addressable"),
+            first @ 2..=7 => write!(
+                f,
+                "only the first {first} bytes of its granule are addressable"
+            ),
             _ => write!(f, "no byte of its granule is addressable"),
         }
     }

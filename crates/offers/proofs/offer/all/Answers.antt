@@ -1,16 +1,12 @@
--- Nothing leads nowhere, and each part that is offered leads on from the one before.
-use Rattle.std.proofs.Common.{rules, arith, ◌-◌, ◌≡◌, true}
-use Rattle.offers.proofs.Pieces.{leads_nothing, leads_further}
+-- Nothing leads nowhere, and each part that is offered leads on.
+use Rattle.std.proofs.Common.{rules}
+use Rattle.offers.proofs.Pieces.{leads_nothing, leads_on}
 use Rattle.offers.proofs.offer.all.Goals as goal
 
-pub loop-at-init : goal.loop-at-init
-loop-at-init g c = (search rules, leads_nothing _ _ _ c.args.piece.now)
+pub loop-left-preserved : goal.loop-left-preserved
+loop-left-preserved g c r shadow table leads =
+    c.loop-left.invariant r shadow table
+    (leads_on _ c.loop-left.left.now c.part_end-end.result _ c.in_ok-next.ensures leads)
 
-pub loop-at-preserved : goal.loop-at-preserved
-loop-at-preserved g c =
-    let whole : c.feed-run.result.whole ≡ true = search rules in
-    let taken = c.feed-run.ensures whole in (
-      omega (arith, taken.most, c.part_end-to.ensures),
-      leads_further c.args.run c.args.piece.now c.loop-at.at (c.part_end-to.result - c.loop-at.at)
-          c.feed-run.result.taken taken.most c.loop-at.invariant.1 taken.leads,
-    )
+pub returns : goal.returns
+returns g c = c.loop-left.invariant _ _ _ (leads_nothing _ _ _ _ (search rules))

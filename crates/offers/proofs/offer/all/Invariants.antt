@@ -1,13 +1,14 @@
--- The invariant: the rules over the bytes before `at` lead to where the run stands. The measure is what is left of the
--- piece.
-use Rattle.std.proofs.Common.{◌-◌, ◌≤◌, length, take}
+-- The invariant: where the rules lead from here over what is left, they lead from the beginning over the piece. The
+-- measure is what is left.
+use Rattle.std.proofs.Common.{ℕ, List, length}
+use Rattle.offers.specs.declared.offer.Run.{Run}
 use Rattle.offers.specs.Offer.{Leads}
 use Rattle.offers.proofs.offer.all.Given as goal
 
-abbrev pub invariant-loop-at : goal.invariant-loop-at
-invariant-loop-at g l =
-    (l.at ≤ length l.piece)
-    × Leads l.initial.run l.initial.shadow l.initial.table (take l.at l.piece) l.run l.shadow l.table
+abbrev pub invariant-loop-left : goal.invariant-loop-left
+invariant-loop-left g l =
+    (r : Run) (shadow table : List ℕ) → Leads l.run l.lent.shadow.now l.lent.table.now l.left r shadow table
+    → Leads l.fn.run l.fn.lent.shadow.now l.fn.lent.table.now l.fn.piece r shadow table
 
-abbrev pub decreases-loop-at : goal.decreases-loop-at
-decreases-loop-at g l = length l.piece - l.at
+abbrev pub decreases-loop-left : goal.decreases-loop-left
+decreases-loop-left g l = length l.left

@@ -3,4 +3,4 @@ use Rattle.offers.proofs.Pieces.{kept_taken}
 use Rattle.offers.proofs.offer.feed.Goals as goal
 
 pub returns : goal.returns
-returns g c whole = kept_taken _ c.feed-fed.ensures (c.after-next.ensures whole)
+returns g c = kept_taken _ c.feed-fed.ensures c.in_ok-next.ensures
