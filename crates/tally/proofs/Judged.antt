@@ -1,11 +1,10 @@
 -- A verdict is a pass exactly where every line was done and none is left unfinished. Assumes nothing.
-use Rattle.std.proofs.Common.{◌≡◌, ℕ, zero, suc, ◌*◌, ◌/◌, ◌⊎◌, inl, inr, List, [], ◌∷◌, ◌++◌, length, Option, Some, None}
-use Rattle.std.proofs.Common.{rules, refl, sym, ap, ◌∙◌, arith}
-use Rattle.rules.specs.declared.Answer.{Answer}
-use Rattle.rules.specs.declared.Answer.TheVariants.{Done, BadLine, BadKind, NotZero, NoRow, NoPlace}
-use Rattle.rules.specs.declared.Answer.TheVariants.{NotHeld, Released, NotGood}
+use Rattle.std.proofs.Common.{◌≡◌, ℕ, zero, suc, ◌*◌, ◌/◌, ◌⊎◌, inl, inr, List, [], ◌∷◌, ◌++◌, length}
+use Rattle.std.proofs.Common.{Option, Some, None, Ok, Err, rules, refl, sym, ap, ◌∙◌, arith}
+use Rattle.rules.specs.declared.Refusal.TheVariants.{BadLine, BadKind, NotZero, NoRow, NoPlace, NotHeld}
+use Rattle.rules.specs.declared.Refusal.TheVariants.{Released, NotGood}
 use Rattle.rules.specs.Limits.{answer_bytes, line_feed}
-use Rattle.rules.specs.Answers.{in_numbers, status}
+use Rattle.rules.specs.Answers.{Answer, in_numbers, status}
 use Rattle.rules.specs.Release.{Pool}
 use Rattle.rules.specs.Hex.{hex_digit, number_on, number, digit, digits, written, read_field}
 use Rattle.rules.specs.Frames.{answer_line}
@@ -56,15 +55,15 @@ report_none t report = answers_none t report (length report / answer_bytes)
 number_read : (a : Answer) → status_at (answer_line a) 0 ≡ Some (status a)
 unfolding status_at status_in counted_as read_field number number_on hex_digit answer_line written digits digit status
     in_numbers
-number_read (Done value) = refl
-number_read BadLine = refl
-number_read BadKind = refl
-number_read NotZero = refl
-number_read NoRow = refl
-number_read NoPlace = refl
-number_read NotHeld = refl
-number_read Released = refl
-number_read (NotGood kind first) = refl
+number_read (Ok value) = refl
+number_read (Err BadLine) = refl
+number_read (Err BadKind) = refl
+number_read (Err NotZero) = refl
+number_read (Err NoRow) = refl
+number_read (Err NoPlace) = refl
+number_read (Err NotHeld) = refl
+number_read (Err Released) = refl
+number_read (Err (NotGood kind first)) = refl
 
 -- a line feed's report is one answer
 tally_feed : (t : Tally) (st : State Pool) → with_report t (step watcher st line_feed).report
@@ -95,7 +94,10 @@ module _ (t : Tally) (st : State Pool) where
       ≡ with_report (with_report t (run watcher st text).report)
       (run watcher (run watcher st text).state more).report
   tally_append text more =
-      rw (run_append, ← with_report_append t (run watcher st text).report _ (line_feeds text) (run_report watcher st text))
+      rw (
+        run_append,
+        ← with_report_append t (run watcher st text).report _ (line_feeds text) (run_report watcher st text),
+      )
 
 -- ---- a text whose every line was done
 

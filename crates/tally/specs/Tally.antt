@@ -1,11 +1,8 @@
 -- What a report says in sum: its answers counted by number, the first line that was not done, and the verdict.
 use Rattle.std.specs.Prelude.{ℕ, zero, suc, ◌+◌, ◌-◌, ◌*◌, ◌/◌, ◌^◌, true, false, ◌≡◌, refl, List, length, get_or, drop}
 use Rattle.std.specs.Prelude.{set, replicate, ltb, Option, Some, None}
-use Rattle.rules.specs.declared.Found.{Found}
-use Rattle.rules.specs.declared.Found.TheVariants.{One, Nothing}
 use Rattle.rules.specs.Field.{start_of}
 use Rattle.rules.specs.Limits.{answer_fields, answer_status, answer_bytes}
-use Rattle.rules.specs.Lowest.{answered}
 use Rattle.rules.specs.Hex.{read_field}
 use Rattle.tally.specs.declared.NotDone.{NotDone}
 use Rattle.tally.specs.declared.Tally.{Tally}
@@ -27,16 +24,16 @@ unfoldable pub more : ℕ → ℕ
 more n = elim (ltb n (2 ^ 64 - 1)) [ true ↦ n + 1 | false ↦ n ]
 
 -- a number from 0 to 9
-unfoldable pub counted_as : Found → Option ℕ
-counted_as (One s) = elim (ltb s 10) [ true ↦ Some s | false ↦ None ]
-counted_as Nothing = None
+unfoldable pub counted_as : Option ℕ → Option ℕ
+counted_as (Some s) = elim (ltb s 10) [ true ↦ Some s | false ↦ None ]
+counted_as None = None
 
 -- the number of an answer, 00 to 09; none where it is another, or where no answer stands
 unfoldable pub status_in : List ℕ → Option ℕ
 status_in answer =
     elim (ltb (length answer) (start_of answer_fields (suc answer_status))) [
       | true ↦ None
-      | false ↦ counted_as (answered (read_field answer_fields answer_status answer))
+      | false ↦ counted_as (read_field answer_fields answer_status answer)
     ]
 
 -- and of the one that begins at a place

@@ -2,10 +2,9 @@
 #![tactic(auto)]
 
 ghost use Rattle.std.specs.Prelude.{◌≡◌};
-ghost use Rattle.tally.specs.Tally.{none, counted_as, status_at, counted, first_after, with_answer, with_report};
+ghost use Rattle.tally.specs.Tally.{none, status_at, counted, first_after, with_answer, with_report};
 ghost use Rattle.tally.specs.Tally.{verdict};
 
-use rules::Found;
 use rules::limits::{ANSWER_BYTES, ANSWER_STATUS_END};
 
 // A line that was not done: its number, from 1, and its answer's, where that is 00 to 09.
@@ -40,24 +39,16 @@ pub fn none() -> Tally
     }
 }
 
-// A number from 0 to 9.
-#[tactic(auto, unfolding(crate::specs::Tally::counted_as))]
-fn counted_as(found: Found) -> Option<u8>
-    ensures { result ≡ counted_as found }
-{
-    match found {
-        Found::One(status) if status < 10 => Some(status as u8),
-        _ => None,
-    }
-}
-
 // The number of the answer that begins at `at`, if it is one of 00 to 09.
-#[tactic(auto, unfolding(crate::specs::Tally::status_at, crate::specs::Tally::status_in, rules::specs::Hex::read_field))]
+#[tactic(auto, unfolding(crate::specs::Tally::status_at, crate::specs::Tally::status_in, crate::specs::Tally::counted_as, rules::specs::Hex::read_field))]
 pub fn status_at(report: &[u8], at: usize) -> Option<u8>
     ensures { result ≡ status_at report.now at }
 {
-    let status = report.get(at..)?.get(..ANSWER_STATUS_END)?;
-    counted_as(hexadecimal::number(status))
+    let digits = report.get(at..)?.get(..ANSWER_STATUS_END)?;
+    match hexadecimal::number(digits)? {
+        status @ 0..10 => Some(status as u8),
+        _ => None,
+    }
 }
 
 #[tactic(auto, unfolding(crate::specs::Tally::counted, crate::specs::Tally::more))]
