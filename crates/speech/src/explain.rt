@@ -4,7 +4,7 @@ use crate::say::Count;
 use crate::words::{Kind, Status};
 use frames::lines;
 use rules::limits::{ANSWER_KIND_END, ANSWER_STATUS_END, ANSWER_VALUE_END, TOO_LONG};
-use rules::{Found, Frame, Session};
+use rules::{Frame, Session};
 use std::fmt;
 
 // Bytes as they were read or written, where one that cannot be printed is a dot.
@@ -52,11 +52,11 @@ impl fmt::Display for Asked {
         let length = self.0.unfinished;
         let line = self.0.line;
         match lines::frame_of_line(length, line) {
-            Frame::Grant { size } => write!(f, "grant of {}", Count(size as u64, "byte")),
-            Frame::Release { address } => write!(f, "release of address {address:08x}"),
-            Frame::Read { address, length } => access(f, "read", address, length),
-            Frame::Write { address, length } => access(f, "write", address, length),
-            Frame::Refused(_) => unread(f, length, line),
+            Ok(Frame::Grant { size }) => write!(f, "grant of {}", Count(size as u64, "byte")),
+            Ok(Frame::Release { address }) => write!(f, "release of address {address:08x}"),
+            Ok(Frame::Read { address, length }) => access(f, "read", address, length),
+            Ok(Frame::Write { address, length }) => access(f, "write", address, length),
+            Err(_) => unread(f, length, line),
         }
     }
 }
@@ -71,8 +71,8 @@ fn first_bad<W: fmt::Write>(f: &mut fmt::Formatter<W>, answer: &[u8]) -> fmt::Re
     let kind = Seen(digits);
     write!(f, "not good: first bad byte {value}, kind {kind}: ")?;
     match hexadecimal::number(digits) {
-        Found::One(kind) => write!(f, "{}", Kind((kind % 256) as u8)),
-        Found::Nothing => Ok(()),
+        Some(kind) => write!(f, "{}", Kind((kind % 256) as u8)),
+        None => Ok(()),
     }
 }
 
