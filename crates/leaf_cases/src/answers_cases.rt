@@ -1,136 +1,81 @@
 // Frames out: each answer of the paper's table in numbers, and a line's as the bytes of a report.
-use crate::lines_cases::letters;
-use cases::show::Three;
-use cases::{show, text};
+use crate::lines_cases::letters_of;
+use cases::case::Case;
 use rules::limits::ANSWER_BYTES;
 use rules::{Answer, CallAnswer, MapAnswer, OpeningAnswer, Reply};
 
 // A line's answers without a kind or a value, by the number.
-fn of_number(out: &impl Print, status: u64) -> Answer {
-    if status == 1 {
-        return Answer::BadLine;
+fn of_number(status: u64) -> Option<Answer> {
+    match status {
+        1 => Some(Answer::BadLine),
+        2 => Some(Answer::BadKind),
+        3 => Some(Answer::NotZero),
+        5 => Some(Answer::NoRow),
+        6 => Some(Answer::NoPlace),
+        7 => Some(Answer::NotHeld),
+        8 => Some(Answer::Released),
+        _ => None,
     }
-    if status == 2 {
-        return Answer::BadKind;
-    }
-    if status == 3 {
-        return Answer::NotZero;
-    }
-    if status == 5 {
-        return Answer::NoRow;
-    }
-    if status == 6 {
-        return Answer::NoPlace;
-    }
-    if status == 7 {
-        return Answer::NotHeld;
-    }
-    if status == 8 {
-        return Answer::Released;
-    }
-    show::not_asked(out);
-    Answer::BadLine
 }
 
-fn answer_of(out: &impl Print, line: &[u8]) -> Answer {
-    let status = text::number(out, line, 1);
-    let value = text::number32(out, line, 3);
-    if status == 0 {
-        return Answer::Done { value };
+fn answer_of(case: &Case<'_, impl Print>) -> Answer {
+    let status = case.number(1);
+    let value = case.given(3);
+    match status {
+        0 => Answer::Done { value },
+        9 => Answer::NotGood {
+            kind: case.given(2),
+            first: value,
+        },
+        _ => case.asked(of_number(status), Answer::BadLine),
     }
-    if status == 9 {
-        let kind = text::number8(out, line, 2);
-        return Answer::NotGood { kind, first: value };
-    }
-    of_number(out, status)
 }
 
 // An opening's answers that refuse it.
-fn of_opening(out: &impl Print, status: u64) -> OpeningAnswer {
-    if status == 21 {
-        return OpeningAnswer::BadShadowLength;
+fn of_opening(status: u64) -> Option<OpeningAnswer> {
+    match status {
+        21 => Some(OpeningAnswer::BadShadowLength),
+        22 => Some(OpeningAnswer::BadRedzone),
+        23 => Some(OpeningAnswer::BadTableLength),
+        _ => None,
     }
-    if status == 22 {
-        return OpeningAnswer::BadRedzone;
-    }
-    if status == 23 {
-        return OpeningAnswer::BadTableLength;
-    }
-    show::not_asked(out);
-    OpeningAnswer::Open
 }
 
 // A map's.
-fn of_map(out: &impl Print, status: u64) -> MapAnswer {
-    if status == 31 {
-        return MapAnswer::BeyondMap;
+fn of_map(status: u64) -> Option<MapAnswer> {
+    match status {
+        31 => Some(MapAnswer::BeyondMap),
+        32 => Some(MapAnswer::InGap),
+        _ => None,
     }
-    if status == 32 {
-        return MapAnswer::InGap;
+}
+
+pub fn three(reply: Reply) -> [u64; 3] {
+    [reply.status as u64, reply.kind as u64, reply.value as u64]
+}
+
+// The rows below 10 are a line's; from 21 on: an opening's, a later call's, a map's.
+fn answered(case: &Case<'_, impl Print>) -> [u64; 3] {
+    match case.number(1) {
+        ..10 => three(answers::numbers_of(answer_of(case))),
+        status @ ..24 => {
+            let answer = case.asked(of_opening(status), OpeningAnswer::Open);
+            [answers::opening_status_of(answer) as u64, 0, 0]
+        }
+        24 => three(answers::call_numbers_of(CallAnswer::BadSession)),
+        status => {
+            let answer = case.asked(of_map(status), MapAnswer::HasShadow);
+            [maps::status_of(answer) as u64, 0, 0]
+        }
     }
-    show::not_asked(out);
-    MapAnswer::HasShadow
 }
 
-fn three(reply: Reply) -> Three {
-    Three(reply.status as u64, reply.kind as u64, reply.value as u64)
+pub fn numbers_of(case: &Case<'_, impl Print>) {
+    case.outcome(case.same_three(answered(case), [1, 2, 3]));
 }
 
-// The rows from 21 on: an opening's, a later call's, a map's.
-fn of_area(out: &impl Print, status: u64) -> Three {
-    if status == 24 {
-        return three(answers::call_numbers_of(CallAnswer::BadSession));
-    }
-    if status < 24 {
-        return Three(
-            answers::opening_status_of(of_opening(out, status)) as u64,
-            0,
-            0,
-        );
-    }
-    Three(maps::status_of(of_map(out, status)) as u64, 0, 0)
-}
-
-fn answered(out: &impl Print, line: &[u8]) -> Three {
-    let status = text::number(out, line, 1);
-    if status < 10 {
-        return three(answers::numbers_of(answer_of(out, line)));
-    }
-    of_area(out, status)
-}
-
-fn expected(out: &impl Print, line: &[u8]) -> Three {
-    let status = text::number(out, line, 1);
-    let kind = text::number(out, line, 2);
-    Three(status, kind, text::number(out, line, 3))
-}
-
-pub fn numbers_of(out: &impl Print, line: &[u8]) {
-    show::case(
-        out,
-        show::same_three(out, answered(out, line), expected(out, line)),
-    );
-}
-
-fn within(out: &impl Print, part: &mut [u8], answer: Answer) {
-    if part.len() == ANSWER_BYTES {
-        return answers::put_answer(part, answer);
-    }
-    show::not_asked(out);
-}
-
-fn same_bytes(out: &impl Print, part: &[u8; ANSWER_BYTES], expected: &[u8; 18]) -> bool {
-    let mut same = true;
-    let mut i = 0;
-    while i < ANSWER_BYTES {
-        same = same & show::same_number8(out, part[i], expected[i]);
-        i += 1;
-    }
-    same
-}
-
-pub fn put_answer(out: &impl Print, line: &[u8]) {
+pub fn put_answer(case: &Case<'_, impl Print>) {
     let mut part = [0x7e; ANSWER_BYTES];
-    within(out, &mut part, answer_of(out, line));
-    show::case(out, same_bytes(out, &part, &letters(line, 4)));
+    answers::put_answer(&mut part, answer_of(case));
+    case.outcome(case.same(&part, &letters_of(case, 4)));
 }

@@ -1,29 +1,17 @@
 // A lent table: which function a case tries.
 use crate::{release_cases, rows_cases};
-use cases::{show, text};
+use cases::case::Case;
 
-pub fn one(out: &impl Print, line: &[u8]) {
-    let what = text::letter(line, 0, 1);
-    if what == b'e' {
-        return rows_cases::empty_row(out, line);
+pub fn one(case: &Case<'_, impl Print>) -> Option<()> {
+    match case.letter(0, 1) {
+        b'e' => rows_cases::empty_row(case)?,
+        b'n' => rows_cases::number(case),
+        b'p' => rows_cases::put_row(case),
+        b's' => rows_cases::survey(case)?,
+        b'l' => release_cases::lessen(case),
+        b'v' => release_cases::evict(case),
+        b'r' => release_cases::release(case),
+        _ => return None,
     }
-    if what == b'n' {
-        return rows_cases::number(out, line);
-    }
-    if what == b'p' {
-        return rows_cases::put_row(out, line);
-    }
-    if what == b's' {
-        return rows_cases::survey(out, line);
-    }
-    if what == b'l' {
-        return release_cases::lessen(out, line);
-    }
-    if what == b'v' {
-        return release_cases::evict(out, line);
-    }
-    if what == b'r' {
-        return release_cases::release(out, line);
-    }
-    show::not_asked(out);
+    Some(())
 }

@@ -1,23 +1,15 @@
 // Text in and text out: which function a case tries.
 use crate::{answers_cases, lines_cases};
-use cases::{show, text};
+use cases::case::Case;
 
-pub fn one(out: &impl Print, line: &[u8]) {
-    let what = text::letter(line, 0, 1);
-    if what == b'b' {
-        return lines_cases::one_digit(out, line);
+pub fn one(case: &Case<'_, impl Print>) -> Option<()> {
+    match case.letter(0, 1) {
+        b'b' => lines_cases::one_digit(case),
+        b'd' => lines_cases::digits(case),
+        b'f' => lines_cases::frame_of_line(case),
+        b'n' => answers_cases::numbers_of(case),
+        b'w' => answers_cases::put_answer(case),
+        _ => return None,
     }
-    if what == b'd' {
-        return lines_cases::digits(out, line);
-    }
-    if what == b'f' {
-        return lines_cases::frame_of_line(out, line);
-    }
-    if what == b'n' {
-        return answers_cases::numbers_of(out, line);
-    }
-    if what == b'w' {
-        return answers_cases::put_answer(out, line);
-    }
-    show::not_asked(out);
+    Some(())
 }

@@ -1,98 +1,51 @@
 // Frames in: digits on both sides of each range of hex digits, and lines of every kind and length.
-ghost use Rattle.std.specs.Prelude.{◌≤◌};
-
-use cases::show::Three;
-use cases::{show, text};
+use cases::case::{Case, option};
 use frames::lines;
-use rules::{Answer, Found, Frame};
+use rules::{Answer, Frame};
+use std::array;
 
-fn within(out: &impl Print, digits: &[u8]) -> Found {
-    if digits.len() <= 16 {
-        return hexadecimal::number(digits);
-    }
-    show::not_asked(out);
-    Found::Nothing
+fn says(case: &Case<'_, impl Print>, digits: &[u8]) {
+    let answered = (digits.len() <= 16).then(|| option(hexadecimal::number(digits)));
+    case.outcome(case.same_found(case.asked(answered, None), 2));
 }
 
-pub fn one_digit(out: &impl Print, line: &[u8]) {
-    let digit = [text::number8(out, line, 1)];
-    show::found(out, within(out, &digit), text::number(out, line, 2));
+pub fn one_digit(case: &Case<'_, impl Print>) {
+    says(case, &[case.given(1)]);
 }
 
 // The byte that a letter stands for.
 fn meant(letter: u8) -> u8 {
-    if letter == b'R' {
-        return b'\r';
+    match letter {
+        b'R' => b'\r',
+        b'N' => b'\n',
+        b'Z' => 0,
+        _ => letter,
     }
-    if letter == b'N' {
-        return b'\n';
-    }
-    if letter == b'Z' {
-        return 0;
-    }
-    letter
 }
 
-// The first 18 letters from a word on.
-pub fn letters(line: &[u8], word: usize) -> [u8; 18] {
-    let mut letters = [0u8; 18];
-    let mut i = 0;
-    while i < 18 {
-        letters[i] = meant(text::letter(line, word, i));
-        i += 1;
-    }
-    letters
+// The first 18 letters from a word on, or spaces.
+pub fn letters_of(case: &Case<'_, impl Print>, word: usize) -> [u8; 18] {
+    array::from_fn(|i| meant(case.letter(word, i)))
 }
 
-fn length_of(line: &[u8], word: usize) -> usize
-    ensures { result ≤ 18 }
-{
-    let mut i = 0;
-    while i < 18 {
-        if text::letter(line, word, i) == b' ' {
-            return i;
-        }
-        i += 1;
-    }
-    i
-}
-
-pub fn digits(out: &impl Print, line: &[u8]) {
-    let letters = letters(line, 1);
-    let length = length_of(line, 1);
-    show::found(
-        out,
-        within(out, &letters[0..length]),
-        text::number(out, line, 2),
-    );
-}
-
-fn refused(answer: Answer) -> Three {
-    Three(0, answers::numbers_of(answer).status as u64, 0)
+pub fn digits(case: &Case<'_, impl Print>) {
+    let letters = letters_of(case, 1);
+    let digits = letters.split(|letter| *letter == b' ').next();
+    says(case, digits.unwrap_or_default());
 }
 
 // Kind, A and B of a frame; 00 and the status of a line that is refused.
-fn in_numbers(frame: Frame) -> Three {
+fn in_numbers(frame: Frame) -> [u64; 3] {
     match frame {
-        Frame::Grant { size } => Three(1, size as u64, 0),
-        Frame::Release { address } => Three(2, address as u64, 0),
-        Frame::Read { address, length } => Three(3, address as u64, length as u64),
-        Frame::Write { address, length } => Three(4, address as u64, length as u64),
-        Frame::Refused(answer) => refused(answer),
+        Frame::Grant { size } => [1, size as u64, 0],
+        Frame::Release { address } => [2, address as u64, 0],
+        Frame::Read { address, length } => [3, address as u64, length as u64],
+        Frame::Write { address, length } => [4, address as u64, length as u64],
+        Frame::Refused(answer) => [0, answers::numbers_of(answer).status as u64, 0],
     }
 }
 
-fn expected(out: &impl Print, line: &[u8]) -> Three {
-    let kind = text::number(out, line, 3);
-    let a = text::number(out, line, 4);
-    Three(kind, a, text::number(out, line, 5))
-}
-
-pub fn frame_of_line(out: &impl Print, line: &[u8]) {
-    let length = text::number(out, line, 1) as usize;
-    let frame = lines::frame_of_line(length, letters(line, 2));
-    show::case(
-        out,
-        show::same_three(out, in_numbers(frame), expected(out, line)),
-    );
+pub fn frame_of_line(case: &Case<'_, impl Print>) {
+    let frame = lines::frame_of_line(case.given(1), letters_of(case, 2));
+    case.outcome(case.same_three(in_numbers(frame), [3, 4, 5]));
 }

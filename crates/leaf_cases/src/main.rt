@@ -16,58 +16,49 @@ mod shadow_cases;
 
 ghost use Rattle.std.specs.Prelude.{◌≤◌, length, IfOk};
 
-use cases::{show, text};
+use cases::case::Case;
+use cases::show;
 use std::io;
 use std::io::Read;
 
-// A case's first letter says what is lent or read: a shadow, blocks, frames or an address of a map.
-fn one(out: &impl Print, line: &[u8]) {
-    let what = text::letter(line, 0, 0);
-    if what == b's' {
-        return shadow_cases::one(out, line);
+// A case's first letter says what is lent or read: a shadow, blocks, frames or an address of a map. Nothing is what is
+// not known, or lends more than there is.
+fn one(case: &Case<'_, impl Print>) -> Option<()> {
+    match case.letter(0, 0) {
+        b's' => shadow_cases::one(case),
+        b'b' => blocks_cases::one(case),
+        b'f' => frames_cases::one(case),
+        b'm' => maps_cases::one(case),
+        _ => None,
     }
-    if what == b'b' {
-        return blocks_cases::one(out, line);
-    }
-    if what == b'f' {
-        return frames_cases::one(out, line);
-    }
-    if what == b'm' {
-        return maps_cases::one(out, line);
-    }
-    show::not_asked(out);
 }
 
 fn walk(out: &impl Print, text: &[u8]) {
-    let mut from = 0;
-    while from < text.len() {
-        let to = text::mark_at(text, from, b'\n');
-        let line = &text[from..to];
-        if text::is_case(out, line) {
-            one(out, line);
+    for line in text.split_inclusive(|byte| *byte == b'\n') {
+        let line = line.strip_suffix(b"\n").unwrap_or(line);
+        if let Some(case) = Case::of_line(out, line)
+            && one(&case).is_none()
+        {
+            show::not_asked(out);
         }
-        from = to + 1;
     }
 }
 
 // Reads until the text is full or the input ends.
-fn read_full(input: &mut impl Read, text: &mut [u8]) -> io::Result<usize>
-    ensures { IfOk result (λ count. count ≤ length text.new) }
-{
+fn read_full<'a>(input: &mut impl Read, text: &'a mut [u8]) -> io::Result<&'a [u8]> {
     let mut count = 0;
     while count < text.len() {
-        let more = input.read(&mut text[count..])?;
-        if more == 0 {
-            break;
+        match input.read(&mut text[count..])? {
+            0 => break,
+            more => count += more,
         }
-        count += more;
     }
-    Ok(count)
+    Ok(&text[..count])
 }
 
 fn main(rt: HostRuntime) -> io::Result<()> {
     let mut space = [0u8; 65536];
-    let count = read_full(&mut rt.reader(), &mut space)?;
-    walk(&rt, &space[..count]);
+    let text = read_full(&mut rt.reader(), &mut space)?;
+    walk(&rt, text);
     Ok(())
 }

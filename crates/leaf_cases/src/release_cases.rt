@@ -1,79 +1,39 @@
 // The quarantine: turns lessened, a row evicted, and whole releases, with answer, shadow and table compared each time.
-use cases::show::Three;
-use cases::tables::{NUMBERS, same_rows, same_shadow, shadow_of, table_of};
-use cases::{show, text};
-use rules::limits::{MOST_ROWS, ROW_NUMBERS};
-use rules::{Answer, Found};
+use crate::answers_cases::three;
+use cases::case::{Case, option};
+use cases::tables::{ROWS, table_of};
+use rules::Answer;
 
-pub fn lessen(out: &impl Print, line: &[u8]) {
-    let mut table = table_of(line, 1);
-    let next = show::same_found(
-        out,
-        evictions::lessen(&mut table),
-        text::number(out, line, 5),
+pub fn lessen(case: &Case<'_, impl Print>) {
+    let mut table = table_of(case.from(1));
+    let next = option(evictions::lessen(&mut table));
+    case.outcome(case.same_found(next, 5) & case.same_table(&table, 6));
+}
+
+#[tactic(auto, unfolding(rules::specs::Table::rows))]
+pub fn evict(case: &Case<'_, impl Print>) {
+    let mut shadow = case.number(1).to_be_bytes();
+    let mut table = table_of(case.from(2));
+    let row = case.given(6);
+    let next = (row < ROWS).then(|| option(evictions::evict(&mut shadow, &mut table, row)));
+    case.outcome(
+        case.same_found(case.asked(next, None), 7)
+            & case.same_shadow(&shadow, 8)
+            & case.same_table(&table, 9),
     );
-    show::case(out, next & same_rows(out, &table, line, 6));
-}
-
-fn evict_within(out: &impl Print, shadow: &mut [u8], table: &mut [u32], row: usize) -> Found {
-    if row < table.len() / ROW_NUMBERS {
-        return evictions::evict(shadow, table, row);
-    }
-    show::not_asked(out);
-    Found::Nothing
-}
-
-pub fn evict(out: &impl Print, line: &[u8]) {
-    let mut shadow = shadow_of(text::number(out, line, 1));
-    let mut table = table_of(line, 2);
-    let found = evict_within(
-        out,
-        &mut shadow,
-        &mut table,
-        text::number(out, line, 6) as usize,
-    );
-    let next = show::same_found(out, found, text::number(out, line, 7));
-    let painted = same_shadow(out, &shadow, line, 8);
-    show::case(out, next & painted & same_rows(out, &table, line, 9));
-}
-
-fn release_within(
-    out: &impl Print,
-    shadow: &mut [u8],
-    table: &mut [u32],
-    limit: u32,
-    address: u32,
-) -> Answer {
-    if table.len() <= ROW_NUMBERS * MOST_ROWS {
-        return quarantine::release(shadow, table, 2, limit, address);
-    }
-    show::not_asked(out);
-    Answer::BadLine
 }
 
 // 00 and a count, 07 or 08 and 0, as the paper's table has them.
-fn same_answer(out: &impl Print, answer: Answer, line: &[u8]) -> bool {
-    let reply = answers::numbers_of(answer);
-    let answered = Three(reply.status as u64, reply.kind as u64, reply.value as u64);
-    let status = text::number(out, line, 8);
-    show::same_three(out, answered, Three(status, 0, text::number(out, line, 9)))
+fn same_answer(case: &Case<'_, impl Print>, answer: Answer) -> bool {
+    let expected = [case.number(8), 0, case.number(9)];
+    case.same(&three(answers::numbers_of(answer)), &expected)
 }
 
-fn released(
-    out: &impl Print,
-    shadow: &mut [u8; 8],
-    table: &mut [u32; NUMBERS],
-    line: &[u8],
-) -> bool {
-    let limit = text::number32(out, line, 6);
-    let answer = release_within(out, shadow, table, limit, text::number32(out, line, 7));
-    same_answer(out, answer, line)
-}
-
-pub fn release(out: &impl Print, line: &[u8]) {
-    let mut shadow = shadow_of(text::number(out, line, 1));
-    let mut table = table_of(line, 2);
-    let right = released(out, &mut shadow, &mut table, line);
-    let painted = same_shadow(out, &shadow, line, 10);
-    show::case(out, right & painted & same_rows(out, &table, line, 11));
+pub fn release(case: &Case<'_, impl Print>) {
+    let mut shadow = case.number(1).to_be_bytes();
+    let mut table = table_of(case.from(2));
+    let answer = quarantine::release(&mut shadow, &mut table, 2, case.given(6), case.given(7));
+    case.outcome(
+        same_answer(case, answer) & case.same_shadow(&shadow, 10) & case.same_table(&table, 11),
+    );
 }

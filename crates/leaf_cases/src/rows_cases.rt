@@ -1,104 +1,72 @@
 // The rows of a table: the lowest empty one, one number of a row, a row put, and what one pass finds for a release.
 use blocks::rows;
 use blocks::rows::Seen;
-use cases::tables::{ROWS, same_rows, table_of};
-use cases::{show, text};
-use rules::limits::{MOST_REDZONE, MOST_ROWS, QUARANTINED, ROW_NUMBERS};
+use cases::case::{Case, option};
+use cases::tables::{NUMBERS, ROWS, table_of};
+use rules::limits::{MOST_REDZONE, QUARANTINED, ROW_NUMBERS};
 use rules::{Found, Row};
 
-pub fn empty_row(out: &impl Print, line: &[u8]) {
-    let table = table_of(line, 2);
-    let lent = text::number(out, line, 1) as usize;
-    if lent <= ROWS {
-        return show::found(
-            out,
-            rows::empty_row(&table[0..ROW_NUMBERS * lent]),
-            text::number(out, line, 6),
-        );
-    }
-    show::not_asked(out);
+// So many rows of a table as the second word says.
+fn lent<'a>(case: &Case<'_, impl Print>, table: &'a [u32; NUMBERS]) -> Option<&'a [u32]> {
+    let numbers = case.given::<usize>(1).checked_mul(ROW_NUMBERS)?;
+    table.get(..numbers)
 }
 
-fn number_within(out: &impl Print, table: &[u32], row: usize, k: usize) -> u32 {
-    if row < table.len() / ROW_NUMBERS {
-        if k < ROW_NUMBERS {
-            return rows::number(table, row, k);
-        }
-    }
-    show::not_asked(out);
-    0
+pub fn empty_row(case: &Case<'_, impl Print>) -> Option<()> {
+    let table = table_of(case.from(2));
+    let answered = rows::empty_row(lent(case, &table)?);
+    case.outcome(case.same_found(option(answered), 6));
+    Some(())
 }
 
-pub fn number(out: &impl Print, line: &[u8]) {
-    let table = table_of(line, 1);
-    let row = text::number(out, line, 5) as usize;
-    let k = text::number(out, line, 6) as usize;
-    show::number(
-        out,
-        number_within(out, &table, row, k) as u64,
-        text::number(out, line, 7),
-    );
+#[tactic(auto, unfolding(rules::specs::Table::rows))]
+pub fn number(case: &Case<'_, impl Print>) {
+    let table = table_of(case.from(1));
+    let row = case.given(5);
+    let k = case.given(6);
+    let answered = (row < ROWS && k < ROW_NUMBERS).then(|| rows::number(&table, row, k));
+    case.outcome(case.same_number(case.asked(answered, 0), 7));
 }
 
-fn put_within(out: &impl Print, table: &mut [u32], row: usize) {
-    if row < table.len() / ROW_NUMBERS {
-        return rows::put_row(
-            table,
-            row,
-            Row {
-                start: 0xffff_ffff,
-                size: 0xffff_fffe,
-                state: QUARANTINED,
-                turn: 9,
-            },
-        );
-    }
-    show::not_asked(out);
+#[tactic(auto, unfolding(rules::specs::Table::rows))]
+pub fn put_row(case: &Case<'_, impl Print>) {
+    let mut table = table_of(case.from(1));
+    let row = case.given(5);
+    let new = Row {
+        start: 0xffff_ffff,
+        size: 0xffff_fffe,
+        state: QUARANTINED,
+        turn: 9,
+    };
+    let put = (row < ROWS).then(|| rows::put_row(&mut table, row, new));
+    case.asked(put, ());
+    case.outcome(case.same_table(&table, 6));
 }
 
-pub fn put_row(out: &impl Print, line: &[u8]) {
-    let mut table = table_of(line, 1);
-    put_within(out, &mut table, text::number(out, line, 5) as usize);
-    show::case(out, same_rows(out, &table, line, 6));
+const NOTHING_SEEN: Seen = Seen {
+    live: Found::Nothing,
+    again: false,
+    count: 0,
+    weight: 0,
+    oldest: Found::Nothing,
+};
+
+fn same_seen(case: &Case<'_, impl Print>, seen: Seen) -> bool {
+    case.same_found(option(seen.live), 8)
+        & case.same_number(seen.again, 9)
+        & case.same_number(seen.count as u64, 10)
+        & case.same_number(seen.weight, 11)
+        & case.same_found(option(seen.oldest), 12)
 }
 
-fn survey_within(out: &impl Print, table: &[u32], redzone: usize, address: u32) -> Seen {
-    if table.len() <= ROW_NUMBERS * MOST_ROWS {
-        if redzone <= MOST_REDZONE {
-            return rows::survey(table, redzone, address);
-        }
-    }
-    show::not_asked(out);
-    Seen {
-        live: Found::Nothing,
-        again: false,
-        count: 0,
-        weight: 0,
-        oldest: Found::Nothing,
-    }
-}
-
-fn same_seen(out: &impl Print, seen: Seen, line: &[u8]) -> bool {
-    let live = seen.live;
-    let oldest = seen.oldest;
-    let at = show::same_found(out, live, text::number(out, line, 8));
-    let again = show::same_number(out, seen.again as u64, text::number(out, line, 9));
-    let count = show::same_number(out, seen.count as u64, text::number(out, line, 10));
-    let weight = show::same_number(out, seen.weight, text::number(out, line, 11));
-    at & again & count & weight & show::same_found(out, oldest, text::number(out, line, 12))
-}
-
-fn surveyed(out: &impl Print, table: &[u32], line: &[u8]) {
-    let redzone = text::number(out, line, 6) as usize;
-    let seen = survey_within(out, table, redzone, text::number32(out, line, 7));
-    show::case(out, same_seen(out, seen, line));
-}
-
-pub fn survey(out: &impl Print, line: &[u8]) {
-    let table = table_of(line, 2);
-    let lent = text::number(out, line, 1) as usize;
-    if lent <= ROWS {
-        return surveyed(out, &table[0..ROW_NUMBERS * lent], line);
-    }
-    show::not_asked(out);
+pub fn survey(case: &Case<'_, impl Print>) -> Option<()> {
+    let table = table_of(case.from(2));
+    let rows = lent(case, &table)?;
+    let redzone = case.given(6);
+    let address = case.given(7);
+    let seen = (rows.len() <= NUMBERS && redzone <= MOST_REDZONE).then(|| rows::survey(
+        rows, redzone, address,
+    ));
+    case.outcome(same_seen(case, case.asked(seen, NOTHING_SEEN)));
+    Some(())
 }

@@ -1,45 +1,21 @@
 // A lent shadow: which function a case tries.
 use crate::{paint_cases, place_cases, range_cases};
-use cases::{show, text};
+use cases::case::Case;
 
-pub fn one(out: &impl Print, line: &[u8]) {
-    let what = text::letter(line, 0, 1);
-    if what == b'l' {
-        return range_cases::leading(out, line);
+pub fn one(case: &Case<'_, impl Print>) -> Option<()> {
+    match case.letter(0, 1) {
+        b'l' => range_cases::leading(case),
+        b's' => range_cases::signed_byte(case),
+        b'n' => range_cases::poisoned(case),
+        b'j' => range_cases::judge(case),
+        b'f' => place_cases::in_free(case)?,
+        b'p' => place_cases::in_part(case),
+        b'w' => place_cases::in_longest(case),
+        b'x' => place_cases::in_scattered(case),
+        b'g' => paint_cases::granules_of(case),
+        b't' => paint_cases::grant(case),
+        b'r' => paint_cases::row(case),
+        _ => return None,
     }
-    if what == b's' {
-        return range_cases::signed_byte(out);
-    }
-    if what == b'n' {
-        return range_cases::poisoned(out, line);
-    }
-    if what == b'j' {
-        return range_cases::judge(out, line);
-    }
-    room_or_paint(out, line, what);
-}
-
-fn room_or_paint(out: &impl Print, line: &[u8], what: u8) {
-    if what == b'f' {
-        return place_cases::in_free(out, line);
-    }
-    if what == b'p' {
-        return place_cases::in_part(out, line);
-    }
-    if what == b'w' {
-        return place_cases::in_longest(out, line);
-    }
-    if what == b'x' {
-        return place_cases::in_scattered(out, line);
-    }
-    if what == b'g' {
-        return paint_cases::granules_of(out, line);
-    }
-    if what == b't' {
-        return paint_cases::grant(out, line);
-    }
-    if what == b'r' {
-        return paint_cases::row(out, line);
-    }
-    show::not_asked(out);
+    Some(())
 }
