@@ -2,85 +2,74 @@
 // later call is asked: a grant of 1, a release of address 38, an access of byte 0, the unfinished length, and a feed of
 // a line feed. What is lent holds 7e and 7 throughout, so a session that fits is answered 05 (no row is empty), 07 (the
 // row that starts at 7 is not held), 09 with 7e, and 00.
-use crate::{Section, fields};
-use cases::{print, show};
+use crate::case::{self, Case};
+use crate::watched::Watched;
+use cases::show;
 use rules::Session;
 
-fn act(out: &impl Print, session: Session, shadow: &mut [u8], table: &mut [u32]) {
-    print::answer(out, b"grant ", watcher::grant(session, shadow, table, 1));
-    print::answer(
-        out,
-        b", release ",
-        watcher::release(session, shadow, table, 56),
-    );
-}
-
-fn look(out: &impl Print, session: Session, shadow: &[u8], table: &[u32]) {
-    print::answer(
-        out,
-        b", access ",
-        watcher::access(session, shadow, table, 0, 1),
-    );
-    print::answer(out, b", unfinished ", watcher::unfinished(session));
-}
-
-fn feed(out: &impl Print, session: Session, shadow: &mut [u8], table: &mut [u32]) {
+fn call(out: &impl Print, name: &str, mut watched: Watched<'_>) {
     let mut room = [b'.'; 13];
-    let fed = watcher::feed(session, shadow, table, b"\n", &mut room);
-    show::words(out, b", feed ");
-    print::fed(out, fed, &room);
+    let grant = watched.grant(1);
+    let release = watched.release(56);
+    let access = watched.access(0, 1);
+    let unfinished = watched.unfinished();
+    let feed = watched.feed(b"\n", &mut room);
+    let left = watched.left();
+    show::line(
+        out,
+        format_args!(
+            "{name}: grant {grant}, release {release}, access {access}, unfinished {unfinished}, feed {feed}, {left}"
+        ),
+    );
 }
 
-fn call(out: &impl Print, words: &[u8], session: Session, shadow: &mut [u8], table: &mut [u32]) {
-    print::begin(out, words);
-    act(out, session, shadow, table);
-    look(out, session, shadow, table);
-    feed(out, session, shadow, table);
-    print::left(out, shadow, table);
-}
-
-fn asked(out: &impl Print, words: &[u8], session: Session, granules: usize, numbers: usize) {
-    let mut shadow = [0x7e; 65537];
-    let mut table = [7u32; 4100];
-    if granules <= 65_537 {
-        if numbers <= 4_100 {
-            call(
-                out,
-                words,
-                session,
-                &mut shadow[0..granules],
-                &mut table[0..numbers],
-            );
-            return;
-        }
-    }
-    show::not_asked(out);
-}
-
-// Granules, rows, redzone, quarantine, unfinished length, granules and numbers lent; the line's places, of which the
-// others are zero.
-pub fn ask(out: &impl Print, case: &[u8]) {
-    let numbers = fields::rest(case);
-    let given = fields::numbers(out, numbers);
-    let session = Session {
-        granules: given[0],
-        rows: given[1],
-        redzone: given[2],
-        quarantine: fields::small(out, given[3]),
-        unfinished: given[4],
-        line: line_of(fields::rest(numbers)),
-    };
-    asked(out, fields::first(case), session, given[5], given[6]);
-}
-
-fn line_of(places: &[u8]) -> [u8; 18] {
+// As many places as are given; the others are zero.
+fn line_of(places: &str) -> [u8; 18] {
     let mut line = [0; 18];
-    fields::copy(places, &mut line);
+    for (place, byte) in line.iter_mut().zip(places.bytes()) {
+        *place = byte;
+    }
     line
 }
 
-fn ask_each(out: &impl Print, cases: &[u8]) {
-    crate::ask_each(out, Section::Sessions, cases);
+// Granules, rows, redzone, quarantine, unfinished length, granules and numbers lent; the line's places.
+fn ask(out: &impl Print, case: Case<'_>) -> Option<()> {
+    let [
+        granules,
+        rows,
+        redzone,
+        quarantine,
+        unfinished,
+        bytes,
+        numbers,
+        ..
+    ] = case.numbers;
+    let session = Session {
+        granules,
+        rows,
+        redzone,
+        quarantine: u32::try_from(quarantine).ok()?,
+        unfinished,
+        line: line_of(case.rest),
+    };
+    let mut shadow = [0x7e; 65537];
+    let mut table = [7u32; 4100];
+    let shadow = shadow.get_mut(..bytes)?;
+    let table = table.get_mut(..numbers)?;
+    call(
+        out,
+        case.name,
+        Watched {
+            session,
+            shadow,
+            table,
+        },
+    );
+    Some(())
+}
+
+fn ask_each(out: &impl Print, cases: &str) {
+    case::ask_each(out, cases, |case| ask(out, case));
 }
 
 // "A closed session is all zeros." Four times 2^62 + 1 is 4 in 64 bits. "Length 0 to 19; 18 places for its first bytes,
@@ -88,7 +77,7 @@ fn ask_each(out: &impl Print, cases: &[u8]) {
 pub fn run(out: &impl Print) {
     ask_each(
         out,
-        b"closed session|0 0 0 0 0 8 4|;\
+        "closed session|0 0 0 0 0 8 4|;\
             closed session, nothing lent|0 0 0 0 0 0 0|;\
             session of 7 granules|7 1 2 16 0 7 4|;\
             session of 8 granules, 1 row, R of 2|8 1 2 16 0 8 4|;\
@@ -101,7 +90,7 @@ pub fn run(out: &impl Print) {
     );
     ask_each(
         out,
-        b"session with R of 0|8 1 0 16 0 8 4|;\
+        "session with R of 0|8 1 0 16 0 8 4|;\
             session with R of 1|8 1 1 16 0 8 4|;\
             session with R of 256|8 1 256 16 0 8 4|;\
             session with R of 257|8 1 257 16 0 8 4|;\
@@ -110,7 +99,7 @@ pub fn run(out: &impl Print) {
     );
     ask_each(
         out,
-        b"unfinished length 18|8 1 2 16 18 8 4|030000000000000001;\
+        "unfinished length 18|8 1 2 16 18 8 4|030000000000000001;\
             unfinished length 19|8 1 2 16 19 8 4|030000000000000001;\
             unfinished length 20|8 1 2 16 20 8 4|030000000000000001;\
             unfinished length 2^63|8 1 2 16 9223372036854775808 8 4|030000000000000001;\
@@ -124,7 +113,7 @@ pub fn run(out: &impl Print) {
     );
     ask_each(
         out,
-        b"one granule less lent|8 1 2 16 0 7 4|;\
+        "one granule less lent|8 1 2 16 0 7 4|;\
             one granule more lent|8 1 2 16 0 9 4|;\
             two rows, one lent|8 2 2 16 0 8 4|;\
             two rows, two lent|8 2 2 16 0 8 8|;\

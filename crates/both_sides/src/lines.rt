@@ -6,7 +6,7 @@ use crate::feeds;
 fn lengths(out: &impl Print) {
     feeds::ask_each(
         out,
-        b"line of 0 bytes|16 4 2 16 14|\n;\
+        "line of 0 bytes|16 4 2 16 14|\n;\
             line of 1 byte|16 4 2 16 14|0\n;\
             line of 17 bytes|16 4 2 16 14|010000000d0000000\n;\
             line of 18 bytes|16 4 2 16 14|010000000d00000000\n;\
@@ -17,7 +17,7 @@ fn lengths(out: &impl Print) {
     );
     feeds::ask_each(
         out,
-        b"0 bytes, no line feed|16 4 2 16 14|;\
+        "0 bytes, no line feed|16 4 2 16 14|;\
             1 byte, no line feed|16 4 2 16 14|0;\
             17 bytes, no line feed|16 4 2 16 14|010000000d0000000;\
             18 bytes, no line feed|16 4 2 16 14|010000000d00000000;\
@@ -34,7 +34,7 @@ fn lengths(out: &impl Print) {
 fn refusals(out: &impl Print) {
     feeds::ask_each(
         out,
-        b"line of 19 bytes, then one of 18|16 4 2 16 27|010000000d000000000\n010000000d00000000\n;\
+        "line of 19 bytes, then one of 18|16 4 2 16 27|010000000d000000000\n010000000d00000000\n;\
             grant in capitals|16 4 2 16 14|010000000D00000000\n;\
             access in capitals|16 4 2 16 14|03ABCDEF0100000001\n;\
             access in small letters|16 4 2 16 14|04abcdef0100000001\n;\
@@ -46,7 +46,7 @@ fn refusals(out: &impl Print) {
     );
     feeds::ask_each(
         out,
-        b"kind 00|16 4 2 16 14|000000000d00000000\n;\
+        "kind 00|16 4 2 16 14|000000000d00000000\n;\
             kind 02|16 4 2 16 14|020000000000000000\n;\
             kind 03|16 4 2 16 14|030000000000000001\n;\
             kind 04|16 4 2 16 14|040000000000000001\n;\

@@ -3,8 +3,8 @@
 #![tactic(auto)]
 
 mod addresses;
+mod case;
 mod feeds;
-mod fields;
 mod forged;
 mod lines;
 mod opening;
@@ -13,42 +13,7 @@ mod report;
 mod rows;
 mod scribbled;
 mod sizes;
-
-use cases::text;
-
-// What the cases of a section ask.
-#[derive(Clone, Copy)]
-pub enum Section {
-    Openings,
-    Feeds,
-    Grants,
-    Accesses,
-    Sessions,
-    Scribbles,
-}
-
-fn ask(out: &impl Print, section: Section, case: &[u8]) {
-    match section {
-        Section::Openings => opening::ask(out, case),
-        Section::Feeds => feeds::ask(out, case),
-        Section::Grants => sizes::ask(out, case),
-        Section::Accesses => addresses::ask(out, case),
-        Section::Sessions => forged::ask(out, case),
-        Section::Scribbles => scribbled::ask(out, case),
-    }
-}
-
-fn ask_each(out: &impl Print, section: Section, cases: &[u8]) {
-    let mut at = 0;
-    while at < cases.len() {
-        let end = text::mark_at(cases, at, b';');
-        ask(out, section, &cases[at..end]);
-        if end == cases.len() {
-            return;
-        }
-        at = end + 1;
-    }
-}
+mod watched;
 
 fn main(rt: HostRuntime) {
     let out = &rt;

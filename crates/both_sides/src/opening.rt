@@ -1,64 +1,29 @@
 // Openings: 21 for the shadow's length, 22 for the redzone, 23 for the table's length, in that order. What is lent
 // holds 7e and 7 throughout, so that a byte or a number that is written, or left, shows.
-use crate::{Section, fields};
-use cases::{print, show};
-
-fn open(
-    out: &impl Print,
-    words: &[u8],
-    shadow: &mut [u8],
-    table: &mut [u32],
-    redzone: usize,
-    quarantine: u32,
-) {
-    let opened = watcher::open(shadow, table, redzone, quarantine);
-    print::begin(out, words);
-    print::status(out, opened.status);
-    print::session(out, opened.session);
-    print::left(out, shadow, table);
-}
-
-fn opened(
-    out: &impl Print,
-    words: &[u8],
-    granules: usize,
-    numbers: usize,
-    redzone: usize,
-    quarantine: u32,
-) {
-    let mut shadow = [0x7e; 65537];
-    let mut table = [7u32; 4100];
-    if granules <= 65_537 {
-        if numbers <= 4_100 {
-            open(
-                out,
-                words,
-                &mut shadow[0..granules],
-                &mut table[0..numbers],
-                redzone,
-                quarantine,
-            );
-            return;
-        }
-    }
-    show::not_asked(out);
-}
+use crate::case::{self, Case};
+use cases::print::{Handed, Left};
+use cases::show;
 
 // Granules, numbers, redzone, quarantine.
-pub fn ask(out: &impl Print, case: &[u8]) {
-    let given = fields::numbers(out, fields::rest(case));
-    opened(
+fn ask(out: &impl Print, case: Case<'_>) -> Option<()> {
+    let [granules, numbers, redzone, quarantine, ..] = case.numbers;
+    let mut shadow = [0x7e; 65537];
+    let mut table = [7u32; 4100];
+    let shadow = shadow.get_mut(..granules)?;
+    let table = table.get_mut(..numbers)?;
+    let opened = watcher::open(shadow, table, redzone, u32::try_from(quarantine).ok()?);
+    let status = opened.status;
+    let session = Handed(opened.session);
+    let left = Left(shadow, table);
+    show::line(
         out,
-        fields::first(case),
-        given[0],
-        given[1],
-        given[2],
-        fields::small(out, given[3]),
+        format_args!("{}: {status:02}, {session}, {left}", case.name),
     );
+    Some(())
 }
 
-fn ask_each(out: &impl Print, cases: &[u8]) {
-    crate::ask_each(out, Section::Openings, cases);
+fn ask_each(out: &impl Print, cases: &str) {
+    case::ask_each(out, cases, |case| ask(out, case));
 }
 
 // "S from 8 to 65,536." "Table length not 4 to 4,096 or not a multiple of 4." "Redzone R in granules (2 to 256)",
@@ -66,7 +31,7 @@ fn ask_each(out: &impl Print, cases: &[u8]) {
 pub fn run(out: &impl Print) {
     ask_each(
         out,
-        b"shadow of 0 granules|0 16 2 16;\
+        "shadow of 0 granules|0 16 2 16;\
             shadow of 7 granules|7 16 2 16;\
             shadow of 8 granules|8 16 2 16;\
             shadow of 65,536 granules|65536 16 2 16;\
@@ -74,7 +39,7 @@ pub fn run(out: &impl Print) {
     );
     ask_each(
         out,
-        b"table of 0 numbers|16 0 2 16;\
+        "table of 0 numbers|16 0 2 16;\
             table of 3 numbers|16 3 2 16;\
             table of 4 numbers|16 4 2 16;\
             table of 5 numbers|16 5 2 16;\
@@ -86,7 +51,7 @@ pub fn run(out: &impl Print) {
     );
     ask_each(
         out,
-        b"redzone of 0 granules|16 16 0 16;\
+        "redzone of 0 granules|16 16 0 16;\
             redzone of 1 granule|16 16 1 16;\
             redzone of 2 granules|16 16 2 16;\
             redzone of 256 granules|16 16 256 16;\
@@ -97,7 +62,7 @@ pub fn run(out: &impl Print) {
     );
     ask_each(
         out,
-        b"shadow, redzone and table wrong|7 5 1 16;\
+        "shadow, redzone and table wrong|7 5 1 16;\
             shadow and redzone wrong|7 16 1 16;\
             shadow and table wrong|7 5 2 16;\
             redzone and table wrong|8 5 1 16;",

@@ -5,7 +5,7 @@ use crate::feeds;
 pub fn run(out: &impl Print) {
     feeds::ask_each(
         out,
-        b"two lines, room for 0 bytes|16 4 2 16 0|010000000d00000000\n030000001000000001\n;\
+        "two lines, room for 0 bytes|16 4 2 16 0|010000000d00000000\n030000001000000001\n;\
             two lines, room for 12 bytes|16 4 2 16 12|010000000d00000000\n030000001000000001\n;\
             two lines, room for 13 bytes|16 4 2 16 13|010000000d00000000\n030000001000000001\n;\
             two lines, room for 25 bytes|16 4 2 16 25|010000000d00000000\n030000001000000001\n;\

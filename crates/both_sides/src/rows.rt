@@ -1,7 +1,7 @@
 // Rows: one, and 1,024; 05 comes before 06; a quarantined row is not empty, an evicted one is.
 use crate::feeds;
-use cases::print;
-use rules::Session;
+use crate::watched::Watched;
+use cases::show;
 use rules::limits::{MOST_ROWS, ROW_NUMBERS, STATE_COLUMN};
 
 const NUMBERS: usize = ROW_NUMBERS * MOST_ROWS;
@@ -13,32 +13,33 @@ fn most_rows(out: &impl Print) {
     let mut shadow = [0x7e; 16];
     let mut table = [7u32; NUMBERS];
     let opened = watcher::open(&mut shadow, &mut table, 2, 16);
-    let mut live = [1u32; NUMBERS];
-    live[LAST_STATE] = 0;
-    grant_and_release(out, opened.session, &mut shadow, &mut live);
+    table.fill(1);
+    table[LAST_STATE] = 0;
+    let watched = Watched {
+        session: opened.session,
+        shadow: &mut shadow,
+        table: &mut table,
+    };
+    grant_and_release(out, watched);
 }
 
-fn grant_and_release(
-    out: &impl Print,
-    session: Session,
-    shadow: &mut [u8; 16],
-    table: &mut [u32; NUMBERS],
-) {
-    print::begin(out, b"1,024 rows, the last one empty");
-    print::answer(out, b"grant ", watcher::grant(session, shadow, table, 1));
-    print::answer(out, b", grant ", watcher::grant(session, shadow, table, 1));
-    print::answer(
+fn grant_and_release(out: &impl Print, mut watched: Watched<'_>) {
+    let first = watched.grant(1);
+    let second = watched.grant(1);
+    let release = watched.release(16);
+    let left = watched.left();
+    show::line(
         out,
-        b", release ",
-        watcher::release(session, shadow, table, 16),
+        format_args!(
+            "1,024 rows, the last one empty: grant {first}, grant {second}, release {release}, {left}"
+        ),
     );
-    print::left(out, shadow, table);
 }
 
 pub fn run(out: &impl Print) {
     feeds::ask_each(
         out,
-        b"one row, a second grant|16 1 2 16 27|010000000100000000\n010000000100000000\n;\
+        "one row, a second grant|16 1 2 16 27|010000000100000000\n010000000100000000\n;\
             one row, no place|16 1 2 16 14|010000006100000000\n;\
             one row, neither row nor place|16 1 2 16 27|010000000100000000\n010000006100000000\n;\
             one row, a grant after a release|16 1 2 16 40|010000000100000000\n020000001000000000\n010000000100000000\n;\

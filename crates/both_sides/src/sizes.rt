@@ -1,71 +1,33 @@
 // Sizes of a grant, from 0 to one more than fits, and what the redzone leaves of a shadow.
-use crate::{Section, feeds, fields};
-use cases::{print, show};
-use rules::Session;
+use crate::case::{self, Case};
+use crate::feeds;
+use crate::watched::Watched;
+use cases::show;
 
-fn grant(
-    out: &impl Print,
-    words: &[u8],
-    session: Session,
-    shadow: &mut [u8],
-    table: &mut [u32],
-    size: u32,
-) {
-    let answer = watcher::grant(session, shadow, table, size);
-    print::begin(out, words);
-    print::answer(out, b"", answer);
-    print::left(out, shadow, table);
-}
-
-fn open_and_grant(
-    out: &impl Print,
-    words: &[u8],
-    shadow: &mut [u8],
-    table: &mut [u32; 8],
-    redzone: usize,
-    size: u32,
-) {
-    let opened = watcher::open(shadow, table, redzone, 16);
-    grant(out, words, opened.session, shadow, table, size);
-}
-
-fn granted(out: &impl Print, words: &[u8], granules: usize, redzone: usize, size: u32) {
-    let mut shadow = [0x7e; 514];
-    let mut table = [7u32; 8];
-    if granules <= 514 {
-        open_and_grant(
-            out,
-            words,
-            &mut shadow[0..granules],
-            &mut table,
-            redzone,
-            size,
-        );
-        return;
-    }
-    show::not_asked(out);
+fn grant(out: &impl Print, name: &str, mut watched: Watched<'_>, size: u32) {
+    let answer = watched.grant(size);
+    let left = watched.left();
+    show::line(out, format_args!("{name}: {answer}, {left}"));
 }
 
 // Granules, redzone, size.
-pub fn ask(out: &impl Print, case: &[u8]) {
-    let given = fields::numbers(out, fields::rest(case));
-    granted(
-        out,
-        fields::first(case),
-        given[0],
-        given[1],
-        fields::small(out, given[2]),
-    );
+fn ask(out: &impl Print, case: Case<'_>) -> Option<()> {
+    let [granules, redzone, size, ..] = case.numbers;
+    let mut shadow = [0x7e; 514];
+    let mut table = [7u32; 8];
+    let shadow = shadow.get_mut(..granules)?;
+    let watched = Watched::open(shadow, &mut table, redzone, 16);
+    grant(out, case.name, watched, u32::try_from(size).ok()?);
+    Some(())
 }
 
 // 8 (S - 2R) bytes is the largest block; 2^32 - 1 bytes are 2^29 granules. The smallest shadow that takes one granule
 // has 2R + 1. With R of 2 that is below 8, so there five and four granules are what a first block leaves of eight, its
 // redzone shared.
 pub fn run(out: &impl Print) {
-    crate::ask_each(
+    case::ask_each(
         out,
-        Section::Grants,
-        b"grant of 0 bytes|16 2 0;\
+        "grant of 0 bytes|16 2 0;\
             grant of 1 byte|16 2 1;\
             grant of 7 bytes|16 2 7;\
             grant of 8 bytes|16 2 8;\
@@ -86,10 +48,11 @@ pub fn run(out: &impl Print) {
             S of 514, R of 256, grant of 9 bytes|514 256 9;\
             S of 8, R of 4, grant of 1 byte|8 4 1;\
             S of 9, R of 4, grant of 1 byte|9 4 1;",
+        |case| ask(out, case),
     );
     feeds::ask_each(
         out,
-        b"S of 8, R of 2, five granules left|8 4 2 16 27|010000000800000000\n010000000100000000\n;\
+        "S of 8, R of 2, five granules left|8 4 2 16 27|010000000800000000\n010000000100000000\n;\
             S of 8, R of 2, four granules left|8 4 2 16 27|010000001000000000\n010000000100000000\n;",
     );
 }
