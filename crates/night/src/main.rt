@@ -3,18 +3,15 @@
 // has them.
 #![tactic(auto)]
 
-use cases::{print, show};
+use cases::print::{Bytes, Handed, Rows};
+use cases::show;
 use rules::{Fed, Session};
 
-const WHOLE: usize = 304;
-
-fn written(out: &impl Print, room: &[u8], wrote: usize) {
-    if wrote <= room.len() {
-        show::words(out, &room[0..wrote]);
-        return;
-    }
-    show::not_asked(out);
-}
+const TRACE: &[u8] =
+    b"010000000d00000000\n03000000100000000d\n030000001c00000002\n010000000100000000\n\
+    020000001000000000\n030000001000000001\n020000001000000000\n020000003000000000\n\
+    010000000800000000\n020000004800000000\n010000001800000000\n010000001000000000\n\
+    040000001c00000008\n030000008000000001\n03ffffffff00000000\n020000001100000000\n";
 
 // A feed whose part of the report is printed at once.
 fn feed(
@@ -26,124 +23,74 @@ fn feed(
     room: &mut [u8],
 ) -> Fed {
     let fed = watcher::feed(session, shadow, table, piece, room);
-    written(out, room, fed.wrote);
+    match room.get(..fed.wrote) {
+        Some(written) => show::bytes(out, written),
+        None => show::not_asked(out),
+    }
     fed
 }
 
-fn at_most(piece: &[u8], most: usize) -> &[u8] {
-    if most < piece.len() {
-        return &piece[0..most];
-    }
-    piece
-}
-
-// The next `most` bytes of the trace, or what is left of it, with so many bytes of room.
-fn offer(
-    out: &impl Print,
-    session: Session,
-    shadow: &mut [u8; 16],
-    table: &mut [u32; 16],
-    trace: &[u8],
-    taken: usize,
-    most: usize,
-    room: usize,
-) -> Fed {
-    let mut report = [b'.'; 208];
-    if taken <= trace.len() {
-        if room <= 208 {
-            let piece = at_most(&trace[taken..], most);
-            return feed(out, session, shadow, table, piece, &mut report[0..room]);
-        }
-    }
-    show::not_asked(out);
-    Fed {
-        session,
-        status: 0,
-        taken: 0,
-        wrote: 0,
-    }
-}
-
-fn further(out: &impl Print, taken: usize, more: usize) -> usize {
-    if taken <= WHOLE {
-        if more <= WHOLE - taken {
-            return taken + more;
-        }
-    }
-    show::not_asked(out);
-    WHOLE
-}
-
 fn end(out: &impl Print, calls: usize, session: Session, shadow: &[u8], table: &[u32]) {
-    print::number(out, b"calls ", calls);
-    print::session(out, session);
-    show::words(out, b", shadow ");
-    print::bytes(out, shadow);
-    print::rows(out, table);
-    show::end(out);
+    let session = Handed(session);
+    let shadow = Bytes(shadow);
+    let rows = Rows(table);
+    show::line(
+        out,
+        format_args!("calls {calls}, {session}, shadow {shadow}, {rows}"),
+    );
 }
 
-// No more calls than the trace has bytes: each has to take one.
-fn feed_all(
-    out: &impl Print,
-    opened: Session,
-    shadow: &mut [u8; 16],
-    table: &mut [u32; 16],
-    trace: &[u8],
-    most: usize,
-    room: usize,
-) {
-    let mut session = opened;
-    let mut taken = 0;
-    let mut calls = 0;
-    while calls < WHOLE {
-        if taken == WHOLE {
-            break;
-        }
-        let fed = offer(out, session, shadow, table, trace, taken, most, room);
-        session = fed.session;
-        taken = further(out, taken, fed.taken);
-        calls += 1;
-    }
-    end(out, calls, session, shadow, table);
-}
-
-// S = 16, R = 2, Q = 16, 4 rows.
-fn replay(out: &impl Print, words: &[u8], trace: &[u8; 304], most: usize, room: usize) {
-    show::words(out, words);
+// S = 16, R = 2, Q = 16, 4 rows. So many bytes are offered at a time, or what is left of the trace. No more calls are
+// made than it has bytes: each has to take one.
+fn replay(out: &impl Print, words: &str, most: usize, room: &mut [u8]) {
+    show::line(out, words);
     let mut shadow = [0x7e; 16];
     let mut table = [7u32; 16];
     let opened = watcher::open(&mut shadow, &mut table, 2, 16);
-    let session = opened.session;
-    feed_all(out, session, &mut shadow, &mut table, trace, most, room);
+    let mut session = opened.session;
+    let mut rest = TRACE;
+    for calls in 0..=TRACE.len() {
+        if rest.is_empty() || calls == TRACE.len() {
+            return end(out, calls, session, &shadow, &table);
+        }
+        let piece = rest.get(..most).unwrap_or(rest);
+        let fed = feed(out, session, &mut shadow, &mut table, piece, room);
+        let Some(left) = rest.get(fed.taken..) else {
+            return show::not_asked(out);
+        };
+        session = fed.session;
+        rest = left;
+    }
 }
 
 // "With one row, a second grant answers 05": line 1, then line 4.
 fn one_row(out: &impl Print) {
-    show::words(out, b"one row\n");
+    show::line(out, "one row");
     let mut shadow = [0x7e; 16];
     let mut table = [7u32; 4];
     let opened = watcher::open(&mut shadow, &mut table, 2, 16);
-    let session = opened.session;
-    two_grants(out, session, &mut shadow, &mut table);
-}
-
-fn two_grants(out: &impl Print, session: Session, shadow: &mut [u8; 16], table: &mut [u32; 4]) {
-    let mut report = [b'.'; 26];
     let piece = b"010000000d00000000\n010000000100000000\n";
-    let fed = feed(out, session, shadow, table, piece, &mut report);
-    let after = fed.session;
-    end(out, 1, after, shadow, table);
+    let mut report = [b'.'; 26];
+    let fed = feed(
+        out,
+        opened.session,
+        &mut shadow,
+        &mut table,
+        piece,
+        &mut report,
+    );
+    end(out, 1, fed.session, &shadow, &table);
 }
 
 fn main(rt: HostRuntime) {
     let out = &rt;
-    let trace = b"010000000d00000000\n03000000100000000d\n030000001c00000002\n010000000100000000\n\
-        020000001000000000\n030000001000000001\n020000001000000000\n020000003000000000\n\
-        010000000800000000\n020000004800000000\n010000001800000000\n010000001000000000\n\
-        040000001c00000008\n030000008000000001\n03ffffffff00000000\n020000001100000000\n";
-    replay(out, b"whole\n", trace, WHOLE, 208);
-    replay(out, b"a byte at a time\n", trace, 1, 13);
-    replay(out, b"room for one answer at a time\n", trace, WHOLE, 13);
+    replay(out, "whole", TRACE.len(), &mut [b'.'; 208]);
+    replay(out, "a byte at a time", 1, &mut [b'.'; 13]);
+    replay(
+        out,
+        "room for one answer at a time",
+        TRACE.len(),
+        &mut [b'.'; 13],
+    );
     one_row(out);
 }
