@@ -1,5 +1,5 @@
-// Tables of four rows, a word a row and a letter a number: "2d10" is the row (2, 13, 1, 0). F stands for ffffffff, E for
-// fffffffe, G for 20000002, H for 1fffffff and I for 20000000.
+// Tables of four rows, a word a row and a letter a number: "2d10" is the row (2, 13, 1, 0). F stands for ffffffff,
+// E for fffffffe, G for 20000002, H for 1fffffff and I for 20000000.
 use crate::case::digit;
 use rules::limits::ROW_NUMBERS;
 use std::array;
