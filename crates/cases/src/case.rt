@@ -13,13 +13,6 @@ pub struct Case<'a, P: Print> {
 // Nothing found as a number: a comparison prints it so, and takes ffffffffffffffff for it, which the outputs rest on.
 const NOTHING: u64 = u64::MAX;
 
-pub fn option(found: rules::Found) -> Option<usize> {
-    match found {
-        rules::Found::One(i) => Some(i),
-        rules::Found::Nothing => None,
-    }
-}
-
 // A number as what is tried takes it: its lowest bits.
 pub trait Given {
     fn of(number: u64) -> Self;
