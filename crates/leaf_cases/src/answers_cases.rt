@@ -2,18 +2,18 @@
 use crate::lines_cases::letters_of;
 use cases::case::Case;
 use rules::limits::ANSWER_BYTES;
-use rules::{Answer, CallAnswer, MapAnswer, OpeningAnswer, Reply};
+use rules::{Answer, CallRefusal, MapRefusal, OpeningRefusal, Refusal, Reply};
 
-// A line's answers without a kind or a value, by the number.
-fn of_number(status: u64) -> Option<Answer> {
+// A line's refusals without a kind or a value, by the number.
+fn refusal_of(status: u64) -> Option<Refusal> {
     match status {
-        1 => Some(Answer::BadLine),
-        2 => Some(Answer::BadKind),
-        3 => Some(Answer::NotZero),
-        5 => Some(Answer::NoRow),
-        6 => Some(Answer::NoPlace),
-        7 => Some(Answer::NotHeld),
-        8 => Some(Answer::Released),
+        1 => Some(Refusal::BadLine),
+        2 => Some(Refusal::BadKind),
+        3 => Some(Refusal::NotZero),
+        5 => Some(Refusal::NoRow),
+        6 => Some(Refusal::NoPlace),
+        7 => Some(Refusal::NotHeld),
+        8 => Some(Refusal::Released),
         _ => None,
     }
 }
@@ -22,30 +22,30 @@ fn answer_of(case: &Case<'_, impl Print>) -> Answer {
     let status = case.number(1);
     let value = case.given(3);
     match status {
-        0 => Answer::Done { value },
-        9 => Answer::NotGood {
+        0 => Ok(value),
+        9 => Err(Refusal::NotGood {
             kind: case.given(2),
             first: value,
-        },
-        _ => case.asked(of_number(status), Answer::BadLine),
+        }),
+        _ => Err(case.asked(refusal_of(status), Refusal::BadLine)),
     }
 }
 
-// An opening's answers that refuse it.
-fn of_opening(status: u64) -> Option<OpeningAnswer> {
+// An opening's refusals.
+fn opening_refusal_of(status: u64) -> Option<OpeningRefusal> {
     match status {
-        21 => Some(OpeningAnswer::BadShadowLength),
-        22 => Some(OpeningAnswer::BadRedzone),
-        23 => Some(OpeningAnswer::BadTableLength),
+        21 => Some(OpeningRefusal::BadShadowLength),
+        22 => Some(OpeningRefusal::BadRedzone),
+        23 => Some(OpeningRefusal::BadTableLength),
         _ => None,
     }
 }
 
 // A map's.
-fn of_map(status: u64) -> Option<MapAnswer> {
+fn map_refusal_of(status: u64) -> Option<MapRefusal> {
     match status {
-        31 => Some(MapAnswer::BeyondMap),
-        32 => Some(MapAnswer::InGap),
+        31 => Some(MapRefusal::BeyondMap),
+        32 => Some(MapRefusal::InGap),
         _ => None,
     }
 }
@@ -59,12 +59,12 @@ fn answered(case: &Case<'_, impl Print>) -> [u64; 3] {
     match case.number(1) {
         ..10 => three(answers::numbers_of(answer_of(case))),
         status @ ..24 => {
-            let answer = case.asked(of_opening(status), OpeningAnswer::Open);
+            let answer = case.asked(opening_refusal_of(status).map(Err), Ok(()));
             [answers::opening_status_of(answer) as u64, 0, 0]
         }
-        24 => three(answers::call_numbers_of(CallAnswer::BadSession)),
+        24 => three(answers::call_numbers_of(Err(CallRefusal::BadSession))),
         status => {
-            let answer = case.asked(of_map(status), MapAnswer::HasShadow);
+            let answer = case.asked(map_refusal_of(status).map(Err), Ok(()));
             [maps::status_of(answer) as u64, 0, 0]
         }
     }

@@ -1,11 +1,11 @@
 // Frames in: digits on both sides of each range of hex digits, and lines of every kind and length.
-use cases::case::{Case, option};
+use cases::case::Case;
 use frames::lines;
-use rules::{Answer, Frame};
+use rules::{Asked, Frame};
 use std::array;
 
 fn says(case: &Case<'_, impl Print>, digits: &[u8]) {
-    let answered = (digits.len() <= 16).then(|| option(hexadecimal::number(digits)));
+    let answered = (digits.len() <= 16).then(|| hexadecimal::number(digits));
     case.outcome(case.same_found(case.asked(answered, None), 2));
 }
 
@@ -35,17 +35,17 @@ pub fn digits(case: &Case<'_, impl Print>) {
 }
 
 // Kind, A and B of a frame; 00 and the status of a line that is refused.
-fn in_numbers(frame: Frame) -> [u64; 3] {
-    match frame {
-        Frame::Grant { size } => [1, size as u64, 0],
-        Frame::Release { address } => [2, address as u64, 0],
-        Frame::Read { address, length } => [3, address as u64, length as u64],
-        Frame::Write { address, length } => [4, address as u64, length as u64],
-        Frame::Refused(answer) => [0, answers::numbers_of(answer).status as u64, 0],
+fn in_numbers(asked: Asked) -> [u64; 3] {
+    match asked {
+        Ok(Frame::Grant { size }) => [1, size as u64, 0],
+        Ok(Frame::Release { address }) => [2, address as u64, 0],
+        Ok(Frame::Read { address, length }) => [3, address as u64, length as u64],
+        Ok(Frame::Write { address, length }) => [4, address as u64, length as u64],
+        Err(refusal) => [0, answers::numbers_of(Err(refusal)).status as u64, 0],
     }
 }
 
 pub fn frame_of_line(case: &Case<'_, impl Print>) {
-    let frame = lines::frame_of_line(case.given(1), letters_of(case, 2));
-    case.outcome(case.same_three(in_numbers(frame), [3, 4, 5]));
+    let asked = lines::frame_of_line(case.given(1), letters_of(case, 2));
+    case.outcome(case.same_three(in_numbers(asked), [3, 4, 5]));
 }

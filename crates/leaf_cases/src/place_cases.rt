@@ -1,5 +1,5 @@
 // Where a block goes: windows that just fit and that just do not, held neighbours on either side, and long shadows.
-use cases::case::{Case, option};
+use cases::case::Case;
 use cases::tables;
 
 // R and u stand in the third and the fourth word, and the place in the word given. The most granules are those of the
@@ -7,9 +7,9 @@ use cases::tables;
 fn place(case: &Case<'_, impl Print>, shadow: &[u8], word: usize) {
     let redzone = case.given(2);
     let granules = case.given(3);
-    let answered = (redzone <= 256 && granules <= 536_870_912).then(|| option(places::place(
+    let answered = (redzone <= 256 && granules <= 536_870_912).then(|| places::place(
         shadow, redzone, granules,
-    )));
+    ));
     case.outcome(case.same_found(case.asked(answered, None), word));
 }
 

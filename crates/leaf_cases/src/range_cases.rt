@@ -1,7 +1,7 @@
 // The shadow byte and the range rule.
 use cases::case::Case;
 use cases::{show, tables};
-use rules::Verdict;
+use rules::{BadByte, Verdict};
 use shadow::{byte, range};
 use std::cmp::Ordering;
 
@@ -30,8 +30,8 @@ pub fn poisoned(case: &Case<'_, impl Print>) {
 // 00 and zeros for a good range, or 09, the kind and the first bad byte.
 fn in_numbers(verdict: Verdict) -> [u64; 3] {
     match verdict {
-        Verdict::Good => [0, 0, 0],
-        Verdict::Bad { kind, first } => [9, kind as u64, first],
+        Ok(()) => [0, 0, 0],
+        Err(BadByte { kind, first }) => [9, kind as u64, first],
     }
 }
 

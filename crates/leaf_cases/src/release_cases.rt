@@ -1,12 +1,12 @@
 // The quarantine: turns lessened, a row evicted, and whole releases, with answer, shadow and table compared each time.
 use crate::answers_cases::three;
-use cases::case::{Case, option};
+use cases::case::Case;
 use cases::tables::{ROWS, table_of};
 use rules::Answer;
 
 pub fn lessen(case: &Case<'_, impl Print>) {
     let mut table = table_of(case.from(1));
-    let next = option(evictions::lessen(&mut table));
+    let next = evictions::lessen(&mut table);
     case.outcome(case.same_found(next, 5) & case.same_table(&table, 6));
 }
 
@@ -15,7 +15,7 @@ pub fn evict(case: &Case<'_, impl Print>) {
     let mut shadow = case.number(1).to_be_bytes();
     let mut table = table_of(case.from(2));
     let row = case.given(6);
-    let next = (row < ROWS).then(|| option(evictions::evict(&mut shadow, &mut table, row)));
+    let next = (row < ROWS).then(|| evictions::evict(&mut shadow, &mut table, row));
     case.outcome(
         case.same_found(case.asked(next, None), 7)
             & case.same_shadow(&shadow, 8)

@@ -1,10 +1,10 @@
 // The rows of a table: the lowest empty one, one number of a row, a row put, and what one pass finds for a release.
 use blocks::rows;
 use blocks::rows::Seen;
-use cases::case::{Case, option};
+use cases::case::Case;
 use cases::tables::{NUMBERS, ROWS, table_of};
+use rules::Row;
 use rules::limits::{MOST_REDZONE, QUARANTINED, ROW_NUMBERS};
-use rules::{Found, Row};
 
 // So many rows of a table as the second word says.
 fn lent<'a>(case: &Case<'_, impl Print>, table: &'a [u32; NUMBERS]) -> Option<&'a [u32]> {
@@ -15,7 +15,7 @@ fn lent<'a>(case: &Case<'_, impl Print>, table: &'a [u32; NUMBERS]) -> Option<&'
 pub fn empty_row(case: &Case<'_, impl Print>) -> Option<()> {
     let table = table_of(case.from(2));
     let answered = rows::empty_row(lent(case, &table)?);
-    case.outcome(case.same_found(option(answered), 6));
+    case.outcome(case.same_found(answered, 6));
     Some(())
 }
 
@@ -44,19 +44,19 @@ pub fn put_row(case: &Case<'_, impl Print>) {
 }
 
 const NOTHING_SEEN: Seen = Seen {
-    live: Found::Nothing,
+    live: None,
     again: false,
     count: 0,
     weight: 0,
-    oldest: Found::Nothing,
+    oldest: None,
 };
 
 fn same_seen(case: &Case<'_, impl Print>, seen: Seen) -> bool {
-    case.same_found(option(seen.live), 8)
+    case.same_found(seen.live, 8)
         & case.same_number(seen.again, 9)
         & case.same_number(seen.count as u64, 10)
         & case.same_number(seen.weight, 11)
-        & case.same_found(option(seen.oldest), 12)
+        & case.same_found(seen.oldest, 12)
 }
 
 pub fn survey(case: &Case<'_, impl Print>) -> Option<()> {
