@@ -4,7 +4,7 @@ use crate::show;
 use crate::tables::{self, NUMBERS};
 
 // A line of the text, and where its outcome is printed.
-#[derive(Clone, Copy)]
+#[derive(Drop)]
 pub struct Case<'a, P: Print> {
     pub out: &'a P,
     pub line: &'a [u8],

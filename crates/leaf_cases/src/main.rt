@@ -14,8 +14,6 @@ mod release_cases;
 mod rows_cases;
 mod shadow_cases;
 
-ghost use Rattle.std.specs.Prelude.{◌≤◌, length, IfOk};
-
 use cases::case::Case;
 use cases::show;
 use std::io;
