@@ -24,12 +24,12 @@ fn accesses(out: &impl Print, name: &str, shadow: &[u8], address: u32, length: u
 }
 
 // Address, length; shadow.
-fn ask(out: &impl Print, case: Case<'_>) -> Option<()> {
+fn ask(case: Case<'_, impl Print>) -> Option<()> {
     let [address, length, ..] = case.numbers;
     let shadow = case::shadow_of(case.rest)?;
     let address = u32::try_from(address).ok()?;
     accesses(
-        out,
+        case.out,
         case.name,
         &shadow,
         address,
@@ -49,6 +49,7 @@ fn of_most(out: &impl Print) {
 pub fn run(out: &impl Print) {
     case::ask_each(
         out,
+        ask,
         "last byte good, at 0|0 64|0000000000000000;\
             last byte good, at 0|0 65|0000000000000000;\
             last byte good, at 1|1 63|0000000000000000;\
@@ -65,7 +66,6 @@ pub fn run(out: &impl Print) {
             last granule bad, at 37|55 10|00000000000000fa;\
             last granule bad, at 3f|63 8|00000000000000fa;\
             last granule bad, at 40|64 8|00000000000000fa;",
-        |case| ask(out, case),
     );
     of_most(out);
 }

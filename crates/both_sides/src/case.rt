@@ -2,9 +2,11 @@
 // each would cost it a third of a second.
 use cases::show;
 
-// A case: its name, numbers with a space between them, and what else is given, with a bar between the three.
-#[derive(Clone, Copy)]
-pub struct Case<'a> {
+// A case: its name, numbers with a space between them, and what else is given, with a bar between the three; and where
+// its line is printed.
+#[derive(Drop)]
+pub struct Case<'a, P: Print> {
+    pub out: &'a P,
     pub name: &'a str,
     pub numbers: [usize; 8],
     pub rest: &'a str,
@@ -19,11 +21,12 @@ fn numbers_of(text: &str) -> Option<[usize; 8]> {
     Some(numbers)
 }
 
-fn case_of(text: &str) -> Option<Case<'_>> {
+fn case_of<'a, P: Print>(out: &'a P, text: &'a str) -> Option<Case<'a, P>> {
     let (name, text) = text.split_once('|')?;
     let (numbers, rest) = text.split_once('|').unwrap_or((text, ""));
     let numbers = numbers_of(numbers)?;
     Some(Case {
+        out,
         name,
         numbers,
         rest,
@@ -31,11 +34,11 @@ fn case_of(text: &str) -> Option<Case<'_>> {
 }
 
 // Each case of a section is asked; nothing is what is no case, or lends more than there is.
-pub fn ask_each<F: Fn(Case<'_>) -> Option<()>>(out: &impl Print, cases: &str, ask: F)
+pub fn ask_each<P: Print, F: Fn(Case<'_, P>) -> Option<()>>(out: &P, ask: F, cases: &str)
     requires { F.IsAlwaysCallable ask }
 {
     for text in cases.split_terminator(';') {
-        if case_of(text).and_then(|case| ask(case)).is_none() {
+        if case_of(out, text).and_then(|case| ask(case)).is_none() {
             show::not_asked(out);
         }
     }

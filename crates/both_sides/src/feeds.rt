@@ -18,7 +18,7 @@ pub fn feed(out: &impl Print, name: &str, mut watched: Watched<'_>, piece: &str,
 
 // Granules, rows, redzone, quarantine, room; piece. The room is lent full of marks, so that a byte beyond those written
 // shows.
-fn ask(out: &impl Print, case: Case<'_>) -> Option<()> {
+fn ask(case: Case<'_, impl Print>) -> Option<()> {
     let [granules, rows, redzone, quarantine, room, ..] = case.numbers;
     let mut shadow = [0x7e; 16];
     let mut table = [7u32; NUMBERS];
@@ -28,10 +28,10 @@ fn ask(out: &impl Print, case: Case<'_>) -> Option<()> {
     let room = report.get_mut(..room)?;
     let quarantine = u32::try_from(quarantine).ok()?;
     let watched = Watched::open(shadow, table, redzone, quarantine);
-    feed(out, case.name, watched, case.rest, room);
+    feed(case.out, case.name, watched, case.rest, room);
     Some(())
 }
 
 pub fn ask_each(out: &impl Print, cases: &str) {
-    case::ask_each(out, cases, |case| ask(out, case));
+    case::ask_each(out, ask, cases);
 }

@@ -33,7 +33,7 @@ fn line_of(places: &str) -> [u8; 18] {
 }
 
 // Granules, rows, redzone, quarantine, unfinished length, granules and numbers lent; the line's places.
-fn ask(out: &impl Print, case: Case<'_>) -> Option<()> {
+fn ask(case: Case<'_, impl Print>) -> Option<()> {
     let [
         granules,
         rows,
@@ -57,7 +57,7 @@ fn ask(out: &impl Print, case: Case<'_>) -> Option<()> {
     let shadow = shadow.get_mut(..bytes)?;
     let table = table.get_mut(..numbers)?;
     call(
-        out,
+        case.out,
         case.name,
         Watched {
             session,
@@ -68,15 +68,12 @@ fn ask(out: &impl Print, case: Case<'_>) -> Option<()> {
     Some(())
 }
 
-fn ask_each(out: &impl Print, cases: &str) {
-    case::ask_each(out, cases, |case| ask(out, case));
-}
-
 // "A closed session is all zeros." Four times 2^62 + 1 is 4 in 64 bits. "Length 0 to 19; 18 places for its first bytes,
 // unused ones zero." "Lent lengths not the session's": the unfinished length is asked with nothing lent.
 pub fn run(out: &impl Print) {
-    ask_each(
+    case::ask_each(
         out,
+        ask,
         "closed session|0 0 0 0 0 8 4|;\
             closed session, nothing lent|0 0 0 0 0 0 0|;\
             session of 7 granules|7 1 2 16 0 7 4|;\
@@ -88,8 +85,9 @@ pub fn run(out: &impl Print) {
             session of 1,025 rows|8 1025 2 16 0 8 4100|;\
             session of 2^62 + 1 rows|8 4611686018427387905 2 16 0 8 4|;",
     );
-    ask_each(
+    case::ask_each(
         out,
+        ask,
         "session with R of 0|8 1 0 16 0 8 4|;\
             session with R of 1|8 1 1 16 0 8 4|;\
             session with R of 256|8 1 256 16 0 8 4|;\
@@ -97,8 +95,9 @@ pub fn run(out: &impl Print) {
             session with Q of 0|8 1 2 0 0 8 4|;\
             session with Q of 2^32 - 1|8 1 2 4294967295 0 8 4|;",
     );
-    ask_each(
+    case::ask_each(
         out,
+        ask,
         "unfinished length 18|8 1 2 16 18 8 4|030000000000000001;\
             unfinished length 19|8 1 2 16 19 8 4|030000000000000001;\
             unfinished length 20|8 1 2 16 20 8 4|030000000000000001;\
@@ -111,8 +110,9 @@ pub fn run(out: &impl Print) {
             \x003;\
             every place used, zero|8 1 2 16 18 8 4|;",
     );
-    ask_each(
+    case::ask_each(
         out,
+        ask,
         "one granule less lent|8 1 2 16 0 7 4|;\
             one granule more lent|8 1 2 16 0 9 4|;\
             two rows, one lent|8 2 2 16 0 8 4|;\

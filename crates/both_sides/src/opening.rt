@@ -5,7 +5,7 @@ use cases::print::{Handed, Left};
 use cases::show;
 
 // Granules, numbers, redzone, quarantine.
-fn ask(out: &impl Print, case: Case<'_>) -> Option<()> {
+fn ask(case: Case<'_, impl Print>) -> Option<()> {
     let [granules, numbers, redzone, quarantine, ..] = case.numbers;
     let mut shadow = [0x7e; 65537];
     let mut table = [7u32; 4100];
@@ -16,29 +16,27 @@ fn ask(out: &impl Print, case: Case<'_>) -> Option<()> {
     let session = Handed(opened.session);
     let left = Left(shadow, table);
     show::line(
-        out,
+        case.out,
         format_args!("{}: {status:02}, {session}, {left}", case.name),
     );
     Some(())
 }
 
-fn ask_each(out: &impl Print, cases: &str) {
-    case::ask_each(out, cases, |case| ask(out, case));
-}
-
 // "S from 8 to 65,536." "Table length not 4 to 4,096 or not a multiple of 4." "Redzone R in granules (2 to 256)",
 // "quarantine limit Q in bytes (any 32-bit number)". Last: "checked in number order."
 pub fn run(out: &impl Print) {
-    ask_each(
+    case::ask_each(
         out,
+        ask,
         "shadow of 0 granules|0 16 2 16;\
             shadow of 7 granules|7 16 2 16;\
             shadow of 8 granules|8 16 2 16;\
             shadow of 65,536 granules|65536 16 2 16;\
             shadow of 65,537 granules|65537 16 2 16;",
     );
-    ask_each(
+    case::ask_each(
         out,
+        ask,
         "table of 0 numbers|16 0 2 16;\
             table of 3 numbers|16 3 2 16;\
             table of 4 numbers|16 4 2 16;\
@@ -49,8 +47,9 @@ pub fn run(out: &impl Print) {
             table of 4,097 numbers|16 4097 2 16;\
             table of 4,100 numbers|16 4100 2 16;",
     );
-    ask_each(
+    case::ask_each(
         out,
+        ask,
         "redzone of 0 granules|16 16 0 16;\
             redzone of 1 granule|16 16 1 16;\
             redzone of 2 granules|16 16 2 16;\
@@ -60,8 +59,9 @@ pub fn run(out: &impl Print) {
             quarantine of 0 bytes|16 16 2 0;\
             quarantine of 2^32 - 1 bytes|16 16 2 4294967295;",
     );
-    ask_each(
+    case::ask_each(
         out,
+        ask,
         "shadow, redzone and table wrong|7 5 1 16;\
             shadow and redzone wrong|7 16 1 16;\
             shadow and table wrong|7 5 2 16;\

@@ -5,7 +5,7 @@ use crate::watched::{self, Watched};
 use cases::tables::{ROWS, table_of};
 
 // Quarantine, room; shadow; rows; piece.
-fn ask(out: &impl Print, case: Case<'_>) -> Option<()> {
+fn ask(case: Case<'_, impl Print>) -> Option<()> {
     let [quarantine, room, ..] = case.numbers;
     let (shadow, rest) = case.rest.split_once('|')?;
     let (rows, piece) = rest.split_once('|')?;
@@ -18,20 +18,17 @@ fn ask(out: &impl Print, case: Case<'_>) -> Option<()> {
         shadow: &mut shadow,
         table: &mut table,
     };
-    feeds::feed(out, case.name, watched, piece, room);
+    feeds::feed(case.out, case.name, watched, piece, room);
     Some(())
-}
-
-fn ask_each(out: &impl Print, cases: &str) {
-    case::ask_each(out, cases, |case| ask(out, case));
 }
 
 // "A row reaching past the shadow paints only granules that exist"; the sum of ffffffff and 1 is more than any Q. "A
 // state above 2 is neither empty nor held." "On equal turns the lower row leaves first"; an eviction lessens the turn
 // of a row in state 3 too. "Values 08 to 7f are never written; if found, no byte is addressable"; only fa is free.
 pub fn run(out: &impl Print) {
-    ask_each(
+    case::ask_each(
         out,
+        ask,
         "row past the end, kept|4294967295 14|fafa00fafdfafdfa|2F10 0000 0000 0000|020000001000000000\n;\
             row past the end, evicted|4294967294 14|fafa00fafdfafdfa|2F10 0000 0000 0000|020000001000000000\n;\
             row past the end, and one byte|4294967295 14|fafa00fafdfafdfa|2F10 4121 0000 0000|020000001000000000\n;\
@@ -43,8 +40,9 @@ pub fn run(out: &impl Print) {
             equal turns of 0|8 14|fafa00fafdfafdfa|4820 6820 2810 0000|020000001000000000\n;\
             a turn in state 3|0 14|fafa00fafdfafdfa|2810 5834 0000 0000|020000001000000000\n;",
     );
-    ask_each(
+    case::ask_each(
         out,
+        ask,
         "live and quarantined at one start|16 14|fafa00fafdfafdfa|2822 2810 0000 0000|020000001000000000\n;\
             two live at one start|16 14|fafa00fafdfafdfa|0000 2910 2810 0000|020000001000000000\n;\
             live at address 0|0 14|00fafafafafafafa|0810 0000 0000 0000|020000000000000000\n;\

@@ -11,13 +11,13 @@ fn grant(out: &impl Print, name: &str, mut watched: Watched<'_>, size: u32) {
 }
 
 // Granules, redzone, size.
-fn ask(out: &impl Print, case: Case<'_>) -> Option<()> {
+fn ask(case: Case<'_, impl Print>) -> Option<()> {
     let [granules, redzone, size, ..] = case.numbers;
     let mut shadow = [0x7e; 514];
     let mut table = [7u32; 8];
     let shadow = shadow.get_mut(..granules)?;
     let watched = Watched::open(shadow, &mut table, redzone, 16);
-    grant(out, case.name, watched, u32::try_from(size).ok()?);
+    grant(case.out, case.name, watched, u32::try_from(size).ok()?);
     Some(())
 }
 
@@ -27,6 +27,7 @@ fn ask(out: &impl Print, case: Case<'_>) -> Option<()> {
 pub fn run(out: &impl Print) {
     case::ask_each(
         out,
+        ask,
         "grant of 0 bytes|16 2 0;\
             grant of 1 byte|16 2 1;\
             grant of 7 bytes|16 2 7;\
@@ -48,7 +49,6 @@ pub fn run(out: &impl Print) {
             S of 514, R of 256, grant of 9 bytes|514 256 9;\
             S of 8, R of 4, grant of 1 byte|8 4 1;\
             S of 9, R of 4, grant of 1 byte|9 4 1;",
-        |case| ask(out, case),
     );
     feeds::ask_each(
         out,
