@@ -43,14 +43,6 @@ pub fn put_row(case: &Case<'_, impl Print>) {
     case.outcome(case.same_table(&table, 6));
 }
 
-const NOTHING_SEEN: Seen = Seen {
-    live: None,
-    again: false,
-    count: 0,
-    weight: 0,
-    oldest: None,
-};
-
 fn same_seen(case: &Case<'_, impl Print>, seen: Seen) -> bool {
     case.same_found(seen.live, 8)
         & case.same_number(seen.again, 9)
@@ -67,6 +59,6 @@ pub fn survey(case: &Case<'_, impl Print>) -> Option<()> {
     let seen = (rows.len() <= NUMBERS && redzone <= MOST_REDZONE).then(|| rows::survey(
         rows, redzone, address,
     ));
-    case.outcome(same_seen(case, case.asked(seen, NOTHING_SEEN)));
+    case.outcome(same_seen(case, case.asked(seen, Seen::default())));
     Some(())
 }
