@@ -40,11 +40,6 @@ from_here : (P : ℕ → Type 0) (i : ℕ) → P i → (k : ℕ) → ((j : ℕ) 
 from_here P i here k above j from below =
     ⊎_elim (λ same. subst P same here) (λ less. above j less below) (eq-or-lt_of_le from)
 
--- what holds from i to k - 1, and of k, holds from i to k: the step of a loop that walks up
-pub and_next : (P : ℕ → Type 0) (i k : ℕ) → ((j : ℕ) → i ≤ j → j < k → P j) → P k → (j : ℕ) → i ≤ j → j < k + 1 → P j
-and_next P i k before here j from below =
-    by_order j k (λ less. before j from less) (λ more. let same : k ≡ j = omega arith in subst P same here)
-
 pub lowest_some : (test : ℕ → Bool) (n i k : ℕ) → lowest test n i ≡ Some k → Lowest test n i k
 lowest_some test zero i k e = absurd (none-some k (sym (lowest_zero test i) ∙ e))
 lowest_some test (suc n) i k e =

@@ -1,16 +1,14 @@
 -- The laws of `put` and `fill`: the length stays, what is put stands in its place, and all else stands as it did.
 -- Assumes nothing.
-use Prim.Native.Nat.{ℕ, suc, ◌+◌, ◌-◌, ◌≤◌, ◌<◌, min, zero-le}
+use Prim.Native.Nat.{ℕ, suc, ◌+◌, ◌-◌, ◌≤◌, ◌<◌, min}
 use native.Mathlib.Nat.{add-zero}
-use native.Mathlib.Numerals.{add-one}
 use native.Mathlib.Omega.{arith}
-use mathlib.Core.Path.{◌≡◌, refl, sym, ap, subst, ◌∙◌}
-use mathlib.Core.List.{List, [], ◌∷◌, ◌++◌, append_assoc, append-nil}
-use lib.ListN.{length, get_or, take, drop, replicate, set, length-append, length-drop, length-replicate, length-set}
+use mathlib.Core.Path.{◌≡◌, sym, ap, subst, ◌∙◌}
+use mathlib.Core.List.{List, [], ◌∷◌, ◌++◌, append_assoc}
+use lib.ListN.{length, get_or, take, drop, replicate, set, length-append, length-drop, length-replicate}
 use lib.ListN.{take-append-drop, get_or-replicate, get_or-append}
-use lib.Seq.{length-take-le, take-suc, take_all, get_or-append-add, get_or-take, get_or-drop, take-append_seam}
-use lib.Seq.{drop-append-add, drop-drop, drop-length, sets, sets-eq}
-use borrow.Author.Fill.{fill_none, fill_more}
+use lib.Seq.{length-take-le, get_or-append-add, get_or-take, get_or-drop, take-append_seam}
+use lib.Seq.{drop-append-add, drop-drop, sets, sets-eq}
 use Rattle.rules.specs.Put.{put, fill}
 use Rattle.rules.proofs.Tests.{by_order}
 
@@ -34,33 +32,12 @@ unfolding put
 put_sets whole at part room =
     sym (append_assoc (take at whole) part (drop (at + length part) whole)) ∙ sym (sets-eq part whole at room)
 
--- a part put store by store: nothing yet, one number more, all
-pub put_start : (whole : List ℕ) (at : ℕ) (part : List ℕ) → whole ≡ put whole at (take 0 part)
-put_start whole at part = sym (put_nothing whole at)
-
 store_last : (part whole : List ℕ) (at v : ℕ)
     → sets whole at (part ++ (v ∷ [])) ≡ set (sets whole at part) (at + length part) v
 store_last [] whole at v = ap (λ n. set whole n v) (sym (add-zero at))
 store_last (w ∷ part) whole at v =
     let further : suc at + length part ≡ at + length (w ∷ part) = omega arith in
     store_last part (set whole at w) (suc at) v ∙ ap (λ n. set (sets (set whole at w) (suc at) part) n v) further
-
-pub put_one_more : (whole : List ℕ) (at : ℕ) (part : List ℕ) (k : ℕ) → at + length part ≤ length whole → k < length part
-    → set (put whole at (take k part)) (at + k) (get_or part k 0) ≡ put whole at (take (k + 1) part)
-put_one_more whole at part k room below =
-    let v : ℕ = get_or part k 0 in
-    let so_far : length (take k part) ≡ k = length-take-le k part (omega arith) in
-    let longer : length (take k part ++ (v ∷ [])) ≡ length (take k part) + 1 = length-append (take k part) (v ∷ []) in
-    ap (λ l. set l (at + k) v) (put_sets whole at (take k part) (omega arith))
-    ∙ ap (λ n. set (sets whole at (take k part)) (at + n) v) (sym so_far)
-    ∙ sym (store_last (take k part) whole at v)
-    ∙ sym (put_sets whole at (take k part ++ (v ∷ [])) (omega arith))
-    ∙ ap (put whole at) (sym (take-suc part k 0 below))
-    ∙ ap (λ n. put whole at (take n part)) (sym (add-one k))
-
-pub put_all : (whole : List ℕ) (at : ℕ) (part : List ℕ) (n : ℕ) → length part ≤ n
-    → put whole at (take n part) ≡ put whole at part
-put_all whole at part n all = ap (put whole at) (take_all n part all)
 
 -- a part that was lent, once it is back
 pub put_lent : (whole : List ℕ) (at n : ℕ) (part : List ℕ) → length part ≡ n → take at whole
@@ -198,29 +175,3 @@ fill_each P whole at n v of_whole of_v k below =
     (λ after. subst P (sym (fill_after whole at n v k 0 after)) (of_whole k in_whole)))
 
 -- ---- a fill, store by store
-
--- the first i numbers of `now` are v, and the rest is as it was at the start
-pub record Filled (v : ℕ) (start : List ℕ) (i : ℕ) (now : List ℕ) : Type 0 where
-  pub most : i ≤ length start
-  pub same_length : length now ≡ length start
-  pub so_far : now ≡ replicate i v ++ drop i start
-
-pub filled_none : (v : ℕ) (start : List ℕ) → Filled v start 0 start
-filled_none v start = record { most = zero-le; same_length = refl; so_far = fill_none start v }
-
-pub filled_more : {v : ℕ} {start : List ℕ} {i : ℕ} {now : List ℕ} → Filled v start i now → i < length start
-    → Filled v start (i + 1) (set now i v)
-filled_more {v} {start} {i} {now} f below = record {
-  most = omega arith;
-  same_length = length-set now i v ∙ f.same_length;
-  so_far = ap (λ l. set l i v) f.so_far ∙ fill_more i v start below;
-}
-
-pub filled_all : {v : ℕ} {start : List ℕ} {i : ℕ} {now : List ℕ} → Filled v start i now → length start ≤ i → now
-    ≡ replicate (length start) v
-filled_all {v} {start} {i} {now} f past =
-    let all : i ≡ length start = omega (arith, f.most) in
-    f.so_far
-    ∙ ap (λ k. replicate k v ++ drop k start) all
-    ∙ ap (λ l. replicate (length start) v ++ l) (drop-length start)
-    ∙ append-nil (replicate (length start) v)
