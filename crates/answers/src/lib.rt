@@ -9,7 +9,6 @@ ghost use Rattle.rules.specs.Frames.{answer_line};
 use rules::limits::{ANSWER_KIND_END, ANSWER_STATUS_END, ANSWER_VALUE_END, LINE_FEED};
 use rules::{Answer, CallAnswer, CallRefusal, OpeningAnswer, OpeningRefusal, Refusal, Reply};
 
-#[tactic(auto, unfolding(rules::specs::Answers::reply))]
 fn reply(status: u8, kind: u8, value: u32) -> Reply
     ensures { result ≡ reply status kind value }
 {
@@ -76,7 +75,7 @@ pub fn put_answer(part: &mut [u8], answer: Answer)
     ensures { part.new ≡ answer_line answer }
 {
     let reply = numbers_of(answer);
-    hexadecimal::put_digits(&mut part[0..ANSWER_STATUS_END], reply.status as u64);
+    hexadecimal::put_digits(&mut part[..ANSWER_STATUS_END], reply.status as u64);
     hexadecimal::put_digits(
         &mut part[ANSWER_STATUS_END..ANSWER_KIND_END],
         reply.kind as u64,

@@ -3,7 +3,8 @@
 
 ghost use Rattle.std.specs.Prelude.{◌^◌, ◌<◌, ◌≡◌};
 ghost use Rattle.rules.specs.Answers.{map_status};
-ghost use Rattle.rules.specs.Maps.{map32, map64, region, region_number, map_answer, map_shadow, mapped, shadow_address, map_call};
+ghost use Rattle.rules.specs.Maps.{map32, map64, shadow_address, region, region_number, map_answer, map_shadow};
+ghost use Rattle.rules.specs.Maps.{mapped, map_call};
 
 use rules::limits::GRANULE;
 use rules::{Map, MapAnswer, MapRefusal, Mapped, Region};

@@ -1,6 +1,7 @@
 -- `answers::put_answer` meets its contract: status, kind and value are written one behind the other, each over as many
 -- bytes as its digits, and the line feed over the last byte. Assumes nothing.
 use Prim.Native.Nat.{ℕ}
+use Rattle.std.proofs.Common.{rules}
 use mathlib.Core.Path.{◌≡◌, sym, ap, ap₂, ◌∙◌}
 use mathlib.Core.List.{List}
 use lib.ListN.{length, set}
@@ -31,11 +32,11 @@ returns c =
     (begun_next answer_fields reply l _ _ answer_kind
     (begun_next answer_fields reply l _ _ answer_status (begun_none answer_fields reply l)
     (c.put_digits.ensures
-    ∙ ap₂ digits (sym c.put_digits-arg-1.given.1) (ap (λ r. r.status) numbered)))
+    ∙ ap₂ digits (search rules) (ap (λ r. r.status) numbered)))
     (c.put_digits-2.ensures
-    ∙ ap₂ digits (sym c.put_digits-arg-2-1.given.1) (ap (λ r. r.kind) numbered)))
+    ∙ ap₂ digits (search rules) (ap (λ r. r.kind) numbered)))
     (c.put_digits-3.ensures
-    ∙ ap₂ digits (sym c.put_digits-arg-3-1.given.1) (ap (λ r. r.value) numbered)))
+    ∙ ap₂ digits (search rules) (ap (λ r. r.value) numbered)))
 
 pub shape_of-part : goal.shape_of-part
 shape_of-part c =
