@@ -327,8 +327,10 @@ module _ {S n R Q : ℕ} {h : History} {x : Exchange} (m : Moment (Holds S n R Q
             (inl (omega arith))
         | no above ↦ of_release a e above
       ])
-      (λ a k fits fits' e. of_access (Ok (Read a k)) a k e refl (ap (λ acted. acted.answer) (acted_on m (Ok (Read a k)) e)))
-      (λ a k fits fits' e. of_access (Ok (Write a k)) a k e refl (ap (λ acted. acted.answer) (acted_on m (Ok (Write a k)) e)))
+      (λ a k fits fits' e.
+      of_access (Ok (Read a k)) a k e refl (ap (λ acted. acted.answer) (acted_on m (Ok (Read a k)) e)))
+      (λ a k fits fits' e.
+      of_access (Ok (Write a k)) a k e refl (ap (λ acted. acted.answer) (acted_on m (Ok (Write a k)) e)))
       (length x.line) x.line refl
 
 -- ---- read off it

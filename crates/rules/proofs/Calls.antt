@@ -214,7 +214,8 @@ unfolding open_with
 open_bad_shadow shadow table R Q a = if_false _ _ a
 
 pub open_bad_redzone : (shadow table : List ℕ) (R Q : ℕ) → between least_granules most_granules (length shadow) ≡ true
-    → between least_redzone most_redzone R ≡ false → open_with shadow table R Q ≡ not_opened (Err BadRedzone) shadow table
+    → between least_redzone most_redzone R ≡ false
+    → open_with shadow table R Q ≡ not_opened (Err BadRedzone) shadow table
 unfolding open_with
 open_bad_redzone shadow table R Q a b = if_true _ _ a ∙ if_false _ _ b
 

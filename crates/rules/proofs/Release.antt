@@ -702,7 +702,8 @@ release_foreign R Q shadow table a above e f = if_false _ _ (ne_eqb a 0 above) �
 -- by what a release finds
 pub by_release {ℓ} : (R Q : ℕ) (shadow table : List ℕ) (a : ℕ) (P : Acted → Type ℓ)
     → (a ≡ 0 → P (unchanged (Ok 0) shadow table))
-    → (a ≢ 0 → row_at live table a ≡ None → row_at quarantined table a ≡ None → P (unchanged (Err NotHeld) shadow table))
+    → (a ≢ 0 → row_at live table a ≡ None → row_at quarantined table a ≡ None
+    → P (unchanged (Err NotHeld) shadow table))
     → (a ≢ 0 → row_at live table a ≡ None → (i : ℕ) → row_at quarantined table a ≡ Some i
     → P (unchanged (Err Released) shadow table))
     → (a ≢ 0 → (i : ℕ) → row_at live table a ≡ Some i

@@ -16,7 +16,7 @@ use Rattle.rules.proofs.Feed.{line_feeds}
 use Rattle.tally.specs.declared.NotDone.{NotDone}
 use Rattle.tally.specs.declared.Tally.{Tally}
 use Rattle.tally.specs.declared.Outcome.TheVariants.{Pass, Fail}
-use Rattle.tally.specs.Tally.{none, counted_as, status_in, status_at, first_after, with_answer, with_answers}
+use Rattle.tally.specs.Tally.{none, status_in, status_at, first_after, with_answer, with_answers}
 use Rattle.tally.specs.Tally.{with_answers_zero, with_answers_suc, with_report, outcome, verdict}
 use Rattle.tally.specs.Verdict.{Passed, judged}
 use Rattle.tally.proofs.Parts.{with_report_append, with_report_none, with_report_one}
@@ -53,7 +53,7 @@ report_none t report = answers_none t report (length report / answer_bytes)
 
 -- an answer's number is read back from its line
 number_read : (a : Answer) → status_at (answer_line a) 0 ≡ Some (status a)
-unfolding status_at status_in counted_as read_field number number_on hex_digit answer_line written digits digit status
+unfolding status_in read_field number number_on hex_digit answer_line written digits digit status
     in_numbers
 number_read (Ok value) = refl
 number_read (Err BadLine) = refl

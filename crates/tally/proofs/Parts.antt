@@ -17,11 +17,9 @@ status_front answer more whole = grind (arith, common_steps)
 
 module _ (first second : List ℕ) where
   status_first : (at : ℕ) → at + 1 < length first → status_at (first ++ second) at ≡ status_at first at
-  unfolding status_at
   status_first at within = grind (arith, common_steps, status_front, drop-append-le {A = ℕ})
 
   status_second : (at : ℕ) → status_at (first ++ second) (length first + at) ≡ status_at second at
-  unfolding status_at
   status_second at = grind (arith, drop-append-add {A = ℕ})
 
   answers_first : (t : Tally) (n : ℕ) → answer_bytes * n ≤ length first

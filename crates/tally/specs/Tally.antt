@@ -24,7 +24,7 @@ unfoldable pub more : ℕ → ℕ
 more n = elim (ltb n (2 ^ 64 - 1)) [ true ↦ n + 1 | false ↦ n ]
 
 -- a number from 0 to 9
-unfoldable pub counted_as : Option ℕ → Option ℕ
+abbrev pub counted_as : Option ℕ → Option ℕ
 counted_as (Some s) = elim (ltb s 10) [ true ↦ Some s | false ↦ None ]
 counted_as None = None
 
@@ -37,7 +37,7 @@ status_in answer =
     ]
 
 -- and of the one that begins at a place
-unfoldable pub status_at : List ℕ → ℕ → Option ℕ
+abbrev pub status_at : List ℕ → ℕ → Option ℕ
 status_at report at = status_in (drop at report)
 
 -- the counts by number, with one more of this one

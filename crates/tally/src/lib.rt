@@ -40,7 +40,7 @@ pub fn none() -> Tally
 }
 
 // The number of the answer that begins at `at`, if it is one of 00 to 09.
-#[tactic(auto, unfolding(crate::specs::Tally::status_at, crate::specs::Tally::status_in, crate::specs::Tally::counted_as, rules::specs::Hex::read_field))]
+#[tactic(auto, unfolding(crate::specs::Tally::status_in, rules::specs::Hex::read_field))]
 pub fn status_at(report: &[u8], at: usize) -> Option<u8>
     ensures { result ≡ status_at report.now at }
 {

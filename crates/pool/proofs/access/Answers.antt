@@ -8,4 +8,6 @@ overflow_cast-result c =
     let shadow = c.args.shadow.now in
     let bad = c.in-Err.bad in
     let found = bad_judge shadow c.args.address c.args.bytes bad.kind bad.first (sym c.in-Err.ensures) in
-    record { fits = first_bad_fits shadow c.args.address c.args.bytes bad.first found.0 c.ranges.address.fits c.requires }
+    record {
+      fits = first_bad_fits shadow c.args.address c.args.bytes bad.first found.0 c.ranges.address.fits c.requires;
+    }

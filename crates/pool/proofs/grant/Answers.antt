@@ -32,7 +32,13 @@ grant-requires c =
     c.granules_of-granules.ensures c.place.ensures c.in_ok-place.ensures.ok_part
 
 pub overflow_cast-place : goal.overflow_cast-place
-overflow_cast-place c = record { fits = omega (arith, address_fits c.args.session _ _ c.args.size c.requires c.counted-asked.ensures c.granules_of-granules.ensures c.place.ensures c.in_ok-place.ensures.ok_part) }
+overflow_cast-place c = record {
+  fits = omega (
+    arith,
+    address_fits c.args.session _ _ c.args.size c.requires c.counted-asked.ensures
+        c.granules_of-granules.ensures c.place.ensures c.in_ok-place.ensures.ok_part,
+  );
+}
 
 pub put_row-requires : goal.put_row-requires
 put_row-requires c =
@@ -40,7 +46,10 @@ put_row-requires c =
     c.empty_row.ensures
 
 pub overflow_cast-result : goal.overflow_cast-result
-overflow_cast-result c = record { fits = address_fits c.args.session _ _ c.args.size c.requires c.counted-asked.ensures c.granules_of-granules.ensures c.place.ensures c.in_ok-place.ensures.ok_part }
+overflow_cast-result c = record {
+  fits = address_fits c.args.session _ _ c.args.size c.requires c.counted-asked.ensures
+      c.granules_of-granules.ensures c.place.ensures c.in_ok-place.ensures.ok_part;
+}
 
 pub returns : goal.returns
 returns c =

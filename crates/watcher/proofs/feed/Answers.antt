@@ -26,7 +26,8 @@ returns-in-Err c =
     let status = c.call_status_of.ensures ∙ ap (λ refusal. call_status (Err refusal)) (one_refusal _) in
     feed_call_is
     (ap (λ number. fed (nothing c.args.session number) shadow table room) status
-    ∙ sym (feed_24 watcher c.args.session (pool_of shadow table) c.args.piece.now room (fits_false _ _ _ c.in-Err.ensures)))
+    ∙ sym (feed_24 watcher c.args.session (pool_of shadow table) c.args.piece.now room
+    (fits_false _ _ _ c.in-Err.ensures)))
 
 pub feed-requires : goal.feed-requires
 feed-requires c = fits_lends _ _ _ c.in_default.ensures

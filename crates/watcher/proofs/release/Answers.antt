@@ -1,5 +1,5 @@
--- `watcher::release` meets its contract: 24 where the session does not fit what is lent, else as its frame does. Assumes
--- nothing.
+-- `watcher::release` meets its contract: 24 where the session does not fit what is lent, else as its frame does.
+-- Assumes nothing.
 use mathlib.Core.Path.{◌≡◌, sym, ap, ◌∙◌}
 use Rattle.std.proofs.Common.{rules}
 use Rattle.std.specs.Prelude.{Err}
