@@ -1,2 +1,3 @@
--- The row that enters the quarantine.
+-- The row that enters the quarantine, and a release by what its pass finds.
 pub mod Entering
+pub mod Releasing
