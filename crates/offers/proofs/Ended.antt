@@ -4,15 +4,11 @@ use native.Mathlib.Omega.{arith}
 use mathlib.Core.Bool.{true}
 use mathlib.Core.Path.{◌≡◌, sym, ap, ◌∙◌}
 use mathlib.Core.List.{List}
-use borrow.Author.Tests.{eq-eqb}
 use Rattle.rules.specs.declared.Session.{Session}
-use Rattle.rules.specs.declared.Answer.TheVariants.{Done}
-use Rattle.rules.specs.Answers.{in_numbers, call_in_numbers}
 use Rattle.rules.specs.Release.{Pool}
 use Rattle.rules.specs.Watcher.{state_of, watcher}
-use Rattle.rules.specs.Calls.{within_limits, fits_lent, unfinished_call}
+use Rattle.rules.specs.Calls.{within_limits, fits_lent}
 use Rattle.rules.specs.Feed.{State, run}
-use Rattle.rules.proofs.Tests.{if_true}
 use Rattle.rules.proofs.Calls.{within_is, unfinished_done, lent_true, run_lent}
 use Rattle.std.specs.Prelude.{Result, Ok, Err}
 use Rattle.tally.specs.declared.Outcome.{Outcome}
@@ -22,15 +18,12 @@ use Rattle.tally.specs.Verdict.{Passed, judged}
 use Rattle.tally.proofs.Judged.{passed, not_passed}
 use Rattle.offers.specs.declared.offer.Run.{Run}
 use Rattle.offers.specs.declared.offer.Stopped.{Stopped}
-use Rattle.offers.specs.Offer.{Leads, left, Ends, told}
+use Rattle.offers.specs.Offer.{Leads, said, left, Ends, told}
 
 -- a session within its limits says how long its line is
 left_within : (session : Session) → within_limits session ≡ true → left session ≡ session.unfinished
-unfolding left call_in_numbers in_numbers
-left_within session within =
-    let is : call_in_numbers (unfinished_call session) ≡ in_numbers (Done session.unfinished) =
-    ap call_in_numbers (unfinished_done session within) in
-    if_true _ _ (eq-eqb _ _ (ap (λ r. r.status) is)) ∙ ap (λ r. r.value) is
+unfolding left
+left_within session within = ap said (unfinished_done session within)
 
 -- 0 is told of a pass alone, and 1 of a fail
 told_pass : (run : Run) (r : Result Outcome Stopped) → Ends run r → told r ≡ 0
@@ -65,16 +58,16 @@ module _ (begun : Run) {shadow table text shadow_after table_after : List ℕ} {
       ∙ ap (verdict (with_report none (run watcher st text).report))
       (left_within there (within_is there lent.within))
 
-  module _ (r : Result Outcome Stopped) where
-    -- so 0 is told of a text whose every line was done, and whose last line is finished
-    pub ended_passed : begun.tally ≡ none → fits_lent begun.session shadow table ≡ true
-        → Leads begun shadow table text ran shadow_after table_after
-        → Ends ran r → told r ≡ 0 → Passed (state_of begun.session shadow table) text
-    ended_passed fresh fits leads ends e = passed _ text (sym (ended fresh fits leads) ∙ told_pass ran r ends e)
+  -- so 0 is told of a text whose every line was done, and whose last line is finished
+  pub ended_passed : (r : Result Outcome Stopped) → begun.tally ≡ none → fits_lent begun.session shadow table ≡ true
+      → Leads begun shadow table text ran shadow_after table_after
+      → Ends ran r → told r ≡ 0 → Passed (state_of begun.session shadow table) text
+  ended_passed r fresh fits leads ends e = passed _ text (sym (ended fresh fits leads) ∙ told_pass ran r ends e)
 
-    -- and 1 is told of one that is not
-    pub ended_not_passed : begun.tally ≡ none → fits_lent begun.session shadow table ≡ true
-        → Leads begun shadow table text ran shadow_after table_after
-        → Ends ran r → told r ≡ 1 → Passed (state_of begun.session shadow table) text → ⊥
-    ended_not_passed fresh fits leads ends e =
-        not_passed _ text (sym (ended fresh fits leads) ∙ told_fail ran r ends e)
+  -- and 1 is told of one that is not
+  pub ended_not_passed : (r : Result Outcome Stopped) → begun.tally ≡ none
+      → fits_lent begun.session shadow table ≡ true
+      → Leads begun shadow table text ran shadow_after table_after
+      → Ends ran r → told r ≡ 1 → Passed (state_of begun.session shadow table) text → ⊥
+  ended_not_passed r fresh fits leads ends e =
+      not_passed _ text (sym (ended fresh fits leads) ∙ told_fail ran r ends e)

@@ -1,12 +1,11 @@
 -- What replay says of a piece of the trace: where all of it was answered and written, the session, the shadow, the
 -- table and the tally are those of the rules over the piece, however it was cut and whatever room was lent.
-use Rattle.std.specs.Prelude.{ℕ, ◌<◌, ◌≤◌, true, false, ◌≡◌, List, length, take, eqb, Result, Ok, Err, IfOk}
+use Rattle.std.specs.Prelude.{ℕ, ◌<◌, ◌≤◌, ◌≡◌, List, length, take, Result, Ok, Err, IfOk}
 use Rattle.rules.specs.declared.Session.{Session}
 use Rattle.rules.specs.declared.Fed.{Fed}
 use Rattle.rules.specs.Feed.{run}
 use Rattle.rules.specs.Limits.{too_long}
-use Rattle.rules.specs.declared.Reply.{Reply}
-use Rattle.rules.specs.Answers.{call_in_numbers}
+use Rattle.rules.specs.Answers.{CallAnswer}
 use Rattle.rules.specs.Watcher.{watcher, state_of}
 use Rattle.rules.specs.Calls.{unfinished_call}
 use Rattle.tally.specs.declared.Outcome.{Outcome}
@@ -40,11 +39,15 @@ pub record Taken (before : Run) (shadow table part : List ℕ) (r : Run) (taken 
   pub most : taken ≤ length part
   pub leads : Leads before shadow table (take taken part) r shadow_after table_after
 
+-- a length that a call says, or 19 where it says none
+abbrev pub said : CallAnswer → ℕ
+said (Ok (Ok length)) = length
+said (Ok (Err refusal)) = too_long
+said (Err refusal) = too_long
+
 -- the unfinished line's length, or 19 where the session cannot say
 unfoldable pub left : Session → ℕ
-left session =
-    let said : Reply = call_in_numbers (unfinished_call session) in
-    elim (eqb said.status 0) [ true ↦ said.value | false ↦ too_long ]
+left session = said (unfinished_call session)
 
 -- how a run ends: with its tally's verdict, or at an error, which is neither
 abbrev pub Ends : Run → Result Outcome Stopped → Type 0

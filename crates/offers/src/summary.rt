@@ -56,11 +56,10 @@ fn outcome(err: &impl Print, tally: Tally, left: u32) {
 fn unfinished(session: Session) -> u32
     ensures { result ≡ left session }
 {
-    let reply = answers::call_numbers_of(watcher::unfinished(session));
-    if reply.status != 0 {
-        return 19;
+    match watcher::unfinished(session) {
+        Ok(Ok(length)) => length,
+        _ => 19,
     }
-    reply.value
 }
 
 // "An unfinished line is never acted on."
