@@ -17,7 +17,7 @@ use tally::{Outcome, Tally};
 // What the report is written to, by the system's name for it.
 const REPORT: &str = "/dev/stdout";
 
-// EIO, ENOSPC and EDQUOT.
+// EIO, ENOSPC and EDQUOT, by number, since the first has no `ErrorKind`.
 const INPUT_OUTPUT: i32 = 5;
 
 const NO_SPACE: i32 = 28;
@@ -51,7 +51,8 @@ fn outcome(err: &impl Print, tally: Tally, left: u32) {
     }
 }
 
-// The unfinished line's length; 19 stands for 19 or more, and for a session that cannot say, which none here is.
+// The unfinished line's length, a number by the definition `left`: 19 stands for 19 or more, and for a session that
+// cannot say, which none here is.
 #[tactic(auto, unfolding(crate::specs::Offer::left))]
 fn unfinished(session: Session) -> u32
     ensures { result ≡ left session }

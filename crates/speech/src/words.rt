@@ -1,7 +1,8 @@
 // What each number of the paper's table means.
 use std::fmt;
 
-// A status of the paper's table: two digits, and decimal, as 24 is twenty-four.
+// A status of the paper's table: two digits, and decimal, as 24 is twenty-four. A number and no enum, since it comes as
+// digits of a report, or in what C is handed of an opening.
 #[derive(Clone, Copy)]
 pub struct Status(pub u8);
 
