@@ -1,6 +1,7 @@
 // Printing. A write that fails is not said: what a program of cases printed is held against what it must print.
 use std::fmt::Display;
 
+// `speech` has this line too: these programs try the product, and are built on none of its words.
 pub fn words(out: &impl Print, words: impl Display + Drop) {
     let _ = out.print(words);
 }

@@ -1,5 +1,6 @@
 // Evictions: every turn lessened, the oldest row of the quarantine evicted, and evictions until the rest weighs no more
-// than Q.
+// than Q. Shadow and table are two parameters, here and above: lent in one struct, each function would owe two clauses
+// more, that its fields still are the caller's slices.
 #![tactic(auto)]
 
 ghost use Rattle.std.specs.Prelude.{◌≡◌, ◌<◌};

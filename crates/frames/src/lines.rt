@@ -20,7 +20,7 @@ fn fields_of_digits(line: [u8; 18]) -> Option<Fields>
     })
 }
 
-// The fields of a line of `length` bytes, whose first 18 are given.
+// The fields of a line of `length` bytes, whose first 18 are given: two fields of the session, which crosses to C.
 #[tactic(auto, unfolding(rules::specs::Frames::fields_of_line))]
 pub fn fields_of_line(length: usize, line: [u8; 18]) -> Option<Fields>
     ensures { result ≡ fields_of_line length line }

@@ -6,7 +6,8 @@ ghost use Rattle.lent.specs.Calls.{FeedInPlaceCall};
 
 use rules::{Counts, Session};
 
-// The session is taken apart, the by-value feed is called, and the fields of the session that it hands back are stored.
+// The session is taken apart, the by-value feed is called, and the fields of the session that it hands back are stored:
+// the paper names this form.
 pub fn feed_in_place(
     session: &mut Session,
     shadow: &mut [u8],

@@ -1,5 +1,5 @@
 // The lent shadow and table together: a grant, a release, an access, and what a frame does. Each asks for a session
-// that has passed the check behind 24.
+// that has passed the check behind 24. The two are lent apart, as in `evictions`.
 #![tactic(auto)]
 
 ghost use Rattle.std.specs.Prelude.{◌≤◌, ◌≡◌, length};

@@ -1,4 +1,4 @@
-// The quarantine: a row enters it, and a whole release, shadow and table together.
+// The quarantine: a row enters it, and a whole release, shadow and table together, lent apart as in `evictions`.
 #![tactic(auto)]
 
 ghost use Rattle.std.specs.Prelude.{◌≡◌};

@@ -33,6 +33,7 @@ pub struct Row {
     pub start: u32,
     // in bytes
     pub size: u32,
+    // a number, since a lent table may hold any: `Table.state`
     pub state: u32,
     pub turn: u32,
 }
@@ -125,7 +126,8 @@ pub struct Reply {
     pub value: u32,
 }
 
-// The first bad byte of a range, and its kind. The byte is a whole number that does not wrap, so it has 64 bits.
+// The first bad byte of a range, and its kind, which is the shadow byte found there and may be any. The byte is a whole
+// number that does not wrap, so it has 64 bits.
 #[derive(Clone, Copy, PartialEq, Eq)]
 pub struct BadByte {
     pub kind: u8,

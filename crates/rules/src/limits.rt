@@ -51,14 +51,14 @@ pub const ANSWER_VALUE_END: usize = ANSWER_KIND_END + 8;
 // An answer in the report, its line feed included.
 pub const ANSWER_BYTES: usize = ANSWER_VALUE_END + 1;
 
-// A row's state.
+// A row's state: numbers, since a lent table may hold any.
 pub const EMPTY: u32 = 0;
 
 pub const LIVE: u32 = 1;
 
 pub const QUARANTINED: u32 = 2;
 
-// The frame kinds.
+// The frame kinds, as a line's digits say them; what a line asks is a `Frame`.
 pub const GRANT: u8 = 1;
 
 pub const RELEASE: u8 = 2;
@@ -77,7 +77,7 @@ pub const OUTSIDE: u8 = 0xff;
 
 pub const LINE_FEED: u8 = 0x0a;
 
-// What stands for the value of a byte that is no hex digit.
+// What stands for the value of a byte that is no hex digit, in a table of bytes alone.
 pub const NO_DIGIT: u8 = 16;
 
 // All of the above in one value, so that one proof ties them to the definitions.

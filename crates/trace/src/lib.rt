@@ -1,4 +1,5 @@
-// A trace: one finished line, and a piece byte by byte, for a session that has passed the check behind 24.
+// A trace: one finished line, and a piece byte by byte, for a session that has passed the check behind 24. What is lent
+// is lent apart, as C lends it.
 #![tactic(auto)]
 
 ghost use Rattle.std.specs.Prelude.{◌≡◌};

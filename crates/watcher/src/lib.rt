@@ -1,5 +1,6 @@
 // The public calls. None of them trusts its caller: a session that is closed, forged or not of the lent buffers is
-// answered 24, and every other input is judged by the rules. The session goes in by value and comes back by value.
+// answered 24, and every other input is judged by the rules. The session goes in by value and comes back by value, and
+// the buffers are lent apart, as C lends them.
 #![tactic(auto)]
 
 ghost use Rattle.std.specs.Prelude.{◌≡◌};
