@@ -9,6 +9,7 @@ ghost use Rattle.rules.specs.Frames.{answer_line};
 use rules::limits::{ANSWER_KIND_END, ANSWER_STATUS_END, ANSWER_VALUE_END, LINE_FEED};
 use rules::{Answer, CallAnswer, CallRefusal, OpeningAnswer, OpeningRefusal, Refusal, Reply};
 
+// The three numbers as C and a report have them.
 fn reply(status: u8, kind: u8, value: u32) -> Reply
     ensures { result ≡ reply status kind value }
 {

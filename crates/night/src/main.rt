@@ -13,7 +13,7 @@ const TRACE: &[u8] =
     010000000800000000\n020000004800000000\n010000001800000000\n010000001000000000\n\
     040000001c00000008\n030000008000000001\n03ffffffff00000000\n020000001100000000\n";
 
-// A feed whose part of the report is printed at once.
+// A feed whose part of the report is printed at once. What is lent is lent apart, as C lends it.
 fn feed(
     out: &impl Print,
     session: Session,

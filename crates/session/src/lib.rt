@@ -85,7 +85,7 @@ pub fn within_limits(session: Session) -> bool
         && unused_zero(session.line, session.unfinished)
 }
 
-// And the lent lengths are the session's.
+// And the lent lengths are the session's. The two are lent apart, as C lends them.
 pub fn fits_lent(session: Session, shadow: &[u8], table: &[u32]) -> bool
     ensures { result ≡ fits_lent session shadow.now table.now }
 {

@@ -23,7 +23,7 @@ returns-in-Err c =
     let shadow = c.args.shadow.now in
     let table = c.args.table.now in
     let room = c.args.room.now in
-    let status = c.call_status_of.ensures ∙ ap (λ refusal. call_status (Err refusal)) (one_refusal _) in
+    let status = c.call_status_of.ensures ∙ ap (λ refusal. call_status (Err refusal)) (one_refusal c.in-Err.refusal) in
     feed_call_is
     (ap (λ number. fed (nothing c.args.session number) shadow table room) status
     ∙ sym (feed_24 watcher c.args.session (pool_of shadow table) c.args.piece.now room
