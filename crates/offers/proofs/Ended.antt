@@ -38,6 +38,14 @@ told_fail run (Ok Pass) ends e = absurd (omega arith)
 told_fail run (Ok Fail) ends e = sym ends
 told_fail run (Err stopped) ends e = absurd (omega arith)
 
+-- an error is neither verdict
+pub ends_stopped : (ran : Run) (stopped : Stopped) → Ends ran (Err stopped)
+ends_stopped ran stopped = tt
+
+pub ends_judged : (ran : Run) (r : Outcome) (length : ℕ) → length ≡ left ran.session → r ≡ verdict ran.tally length
+    → Ends ran (Ok r)
+ends_judged ran r length is judged = judged ∙ ap (verdict ran.tally) is
+
 -- ---- the verdict of all that was offered
 
 module _ (begun : Run) {shadow table text shadow_after table_after : List ℕ} {ran : Run} where

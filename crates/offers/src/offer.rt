@@ -1,5 +1,5 @@
 // Offering a piece of the trace to the watcher until all of it is taken, the report written as it comes.
-ghost use Rattle.std.specs.Prelude.{◌<◌, ◌≤◌, length, IfOk};
+ghost use Rattle.std.specs.Prelude.{◌≡◌, ◌<◌, ◌≤◌, length, IfOk};
 ghost use Rattle.offers.specs.Offer.{Kept, Leads, Taken};
 
 use rules::limits::LINE_FEED;
@@ -114,8 +114,11 @@ fn feed(
     run: Run,
     part: &[u8],
 ) -> Result<(Run, usize), Stopped>
-    ensures { IfOk result (λ r. Taken run lent.old.shadow.now lent.old.table.now part.now r.0 r.1
+    ensures taken { IfOk result (λ r. Taken run lent.old.shadow.now lent.old.table.now part.now r.0 r.1
         lent.new.shadow.now lent.new.table.now) }
+    ensures same_shadow { lent.new.shadow.ghost_name ≡ lent.old.shadow.ghost_name }
+    ensures same_table { lent.new.table.ghost_name ≡ lent.old.table.ghost_name }
+    ensures same_room { lent.new.room.ghost_name ≡ lent.old.room.ghost_name }
 {
     let asked = run.session;
     let fed = watcher::feed(asked, lent.shadow, lent.table, part, lent.room);
@@ -131,8 +134,11 @@ pub fn all(
     run: Run,
     piece: &[u8],
 ) -> Result<Run, Stopped>
-    ensures { IfOk result (λ r. Leads run lent.old.shadow.now lent.old.table.now piece.now r
+    ensures leads { IfOk result (λ r. Leads run lent.old.shadow.now lent.old.table.now piece.now r
         lent.new.shadow.now lent.new.table.now) }
+    ensures same_shadow { lent.new.shadow.ghost_name ≡ lent.old.shadow.ghost_name }
+    ensures same_table { lent.new.table.ghost_name ≡ lent.old.table.ghost_name }
+    ensures same_room { lent.new.room.ghost_name ≡ lent.old.room.ghost_name }
 {
     let mut run = run;
     let mut left = piece;

@@ -4,9 +4,14 @@ use Rattle.offers.proofs.Pieces.{leads_nothing, leads_on}
 use Rattle.offers.proofs.offer.all.Goals as goal
 
 pub loop-left-preserved : goal.loop-left-preserved
-loop-left-preserved g c r shadow table leads =
-    c.loop-left.invariant r shadow table
-    (leads_on _ c.loop-left.left.now c.part_end-end.result _ c.in_ok-next.ensures leads)
+loop-left-preserved g c = record {
+  leads = λ r shadow table leads.
+      c.loop-left.invariant.leads r shadow table
+      (leads_on _ c.loop-left.left.now c.part_end-end.result _ c.in_ok-next.ensures.taken leads);
+  same_shadow = search rules;
+  same_table = search rules;
+  same_room = search rules;
+}
 
-pub returns : goal.returns
-returns g c = c.loop-left.invariant _ _ _ (leads_nothing _ _ _ _ (search rules))
+pub returns-clause-leads : goal.returns-clause-leads
+returns-clause-leads g c = c.loop-left.invariant.leads _ _ _ (leads_nothing _ _ _ _ (search rules))

@@ -2,5 +2,5 @@
 use Rattle.offers.proofs.Pieces.{kept_taken}
 use Rattle.offers.proofs.offer.feed.Goals as goal
 
-pub returns : goal.returns
-returns g c = kept_taken _ c.feed-fed.ensures c.in_ok-next.ensures
+pub returns-clause-taken : goal.returns-clause-taken
+returns-clause-taken g c = kept_taken _ c.feed-fed.ensures c.in_ok-next.ensures
