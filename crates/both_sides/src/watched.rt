@@ -1,4 +1,4 @@
-// A session with the buffers that are lent to each of its calls.
+// A session with the buffers that are lent to each of its calls, which the calls take apart.
 use cases::print::{Answered, Feed, Left};
 use rules::Session;
 
@@ -9,7 +9,8 @@ pub struct Watched<'a> {
     pub table: &'a mut [u32],
 }
 
-// A session with R of 2 to which nothing has been fed.
+// A session with R of 2 to which nothing has been fed, field by field: the calls are tried, and nothing below them is
+// used.
 pub fn fresh(granules: usize, rows: usize, quarantine: u32) -> Session {
     Session {
         granules,

@@ -10,7 +10,8 @@ pub struct Case<'a, P: Print> {
     pub line: &'a [u8],
 }
 
-// Nothing found as a number: a comparison prints it so, and takes ffffffffffffffff for it, which the outputs rest on.
+// Nothing found as a number: a comparison prints it so, and takes ffffffffffffffff for it, on any text as it always
+// did.
 const NOTHING: u64 = u64::MAX;
 
 // A number as what is tried takes it: its lowest bits.

@@ -64,7 +64,7 @@ fn evict_oldest(shadow: &mut [u8], table: &mut [u32], redzone: usize, held: Held
     Held { weight, oldest }
 }
 
-// While the weights are above the limit, the oldest is evicted. Answers how many were.
+// While the weights are above the limit, the oldest is evicted; how often is not known before. Answers how many were.
 #[tactic(auto, using(crate::proofs::Settling::all_evicted))]
 pub fn settle(
     shadow: &mut [u8],

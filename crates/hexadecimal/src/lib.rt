@@ -48,7 +48,8 @@ pub fn number(digits: &[u8]) -> Option<usize>
     Some(said)
 }
 
-// A digit below 16, in lower case.
+// A digit below 16, in lower case; `char::from_digit` answers an option of a character, of which a byte is yet to be
+// made.
 #[tactic(auto, unfolding(rules::specs::Hex::digit))]
 fn digit(value: u8) -> u8
     requires { value < 16 }

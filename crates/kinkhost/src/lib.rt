@@ -1,6 +1,6 @@
 // The C interface: the public calls and the two maps under C names, an answer as its numbers, since an enum does not
-// cross to C. `include/kinkhost.h` declares them. Each repeats its callee's parameters and clause, since a C name has no
-// other.
+// cross to C. `include/kinkhost.h` declares them. Each repeats its callee's parameters and clause, since a C name has
+// no other.
 #![tactic(auto)]
 
 ghost use Rattle.std.specs.Prelude.{◌≡◌};

@@ -42,7 +42,7 @@ fn walk(out: &impl Print, text: &[u8]) {
     }
 }
 
-// Reads until the text is full or the input ends.
+// Reads until the text is full or the input ends: no `for`, since a read may give any number of bytes.
 fn read_full<'a>(input: &mut impl Read, text: &'a mut [u8]) -> io::Result<&'a [u8]> {
     let mut count = 0;
     while count < text.len() {

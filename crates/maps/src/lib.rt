@@ -71,7 +71,7 @@ pub fn status_of(answer: MapAnswer) -> u8
     }
 }
 
-// The region's number.
+// The region's number, which C is handed: nowhere is a region too, 0.
 #[tactic(auto, unfolding(rules::specs::Maps::region_number))]
 fn number_of(found: Region) -> u8
     ensures { result ≡ region_number found }

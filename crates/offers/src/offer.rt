@@ -141,6 +141,7 @@ pub fn all(
     ensures same_room { lent.new.room.ghost_name ≡ lent.old.room.ghost_name }
 {
     let mut run = run;
+    // no `for`: how much is taken is known only once a part was offered
     let mut left = piece;
     while !left.is_empty() {
         let end = part_end(left, streams.explain);

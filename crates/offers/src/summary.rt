@@ -17,7 +17,7 @@ use tally::{Outcome, Tally};
 // What the report is written to, by the system's name for it.
 const REPORT: &str = "/dev/stdout";
 
-// EIO, ENOSPC and EDQUOT, by number, since the first has no `ErrorKind`.
+// EIO, ENOSPC and EDQUOT, by number: the first has no `ErrorKind`, and one match of three numbers is plainer than two.
 const INPUT_OUTPUT: i32 = 5;
 
 const NO_SPACE: i32 = 28;

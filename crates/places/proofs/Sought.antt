@@ -12,7 +12,7 @@ use borrow.Author.Tests.{eq-eqb}
 use Rattle.std.specs.Prelude.{Option, None, Some}
 use Rattle.rules.specs.Limits.{redzone_byte}
 use Rattle.rules.specs.Lowest.{lowest, found, all_equal, lowest_zero, lowest_here, lowest_later}
-use Rattle.rules.specs.Grant.{fits, place}
+use Rattle.rules.specs.Grant.{fits, place, Fits}
 use Rattle.rules.proofs.Tests.{by_order, by_test}
 use Rattle.rules.proofs.Lowest.{NonePasses, lowest_skip, lowest_no, all_equal_true}
 
@@ -88,6 +88,11 @@ module _ (shadow : List ℕ) (R u : ℕ) where
       (other (all_equal_true shadow redzone_byte (p - R) (R + u + R) passes (start + k) (omega arith) (omega arith))))
       (λ fails. fails))
       ∙ ap₂ (lowest (fits shadow R u)) (omega arith) (omega arith)
+
+  -- so no place lies between the two
+  pub windowed_past : (start k : ℕ) → k < R + u + R → get_or shadow (start + k) 0 ≢ redzone_byte → (q : ℕ)
+      → start + R ≤ q → q < start + k + 1 + R → Fits shadow R u q → ⊥
+  windowed_past start k within other q from below f = other (f.free (start + k) (omega arith) (omega arith))
 
 -- for the loops' goals
 pub ruleset walked = (window_next, sought_none, sought_all, sought_here)

@@ -66,6 +66,7 @@ pub fn access(shadow: &[u8], address: u32, bytes: u32) -> Answer
 {
     match range::judge(shadow, address, bytes) {
         Ok(()) => Ok(0),
+        // no `From`: that the byte has 32 bits is known here alone, by the shadow's length
         Err(bad) => Err(Refusal::NotGood {
             kind: bad.kind,
             first: bad.first as u32,

@@ -64,7 +64,8 @@ pub fn given(env: &impl Env) -> Option<Options> {
     })
 }
 
-// The system's names for the descriptors. A table, since no heap is there to format a name in.
+// The system's names for the descriptors: a table, which is plainer than a room to format them in and a text made of
+// it.
 const DESCRIPTORS: [&str; 10] = [
     "/dev/fd/0",
     "/dev/fd/1",

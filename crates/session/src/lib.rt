@@ -60,7 +60,7 @@ pub fn fresh(granules: usize, rows: usize, redzone: usize, quarantine: u32) -> S
     }
 }
 
-// The places from `used` on are zero.
+// The places from `used` on are zero: two fields of the session, which crosses to C.
 fn unused_zero(line: [u8; 18], used: usize) -> bool
     ensures { result ≡ unused_zero line used }
 {

@@ -24,7 +24,9 @@ impl fmt::Display for Seen<'_> {
 }
 
 // A line that asked nothing, as it stands; no more than 18 of its bytes are kept.
-fn unread<W: fmt::Write>(f: &mut fmt::Formatter<W>, length: usize, line: [u8; 18]) -> fmt::Result {
+fn unread<W: fmt::Write>(f: &mut fmt::Formatter<W>, session: Session) -> fmt::Result {
+    let length = session.unfinished;
+    let line = session.line;
     let kept = Seen(&line[..length.min(18)]);
     if length < TOO_LONG {
         let bytes = Count(length as u64, "byte");
@@ -56,7 +58,7 @@ impl fmt::Display for Asked {
             Ok(Frame::Release { address }) => write!(f, "release of address {address:08x}"),
             Ok(Frame::Read { address, length }) => access(f, "read", address, length),
             Ok(Frame::Write { address, length }) => access(f, "write", address, length),
-            Err(_) => unread(f, length, line),
+            Err(_) => unread(f, self.0),
         }
     }
 }

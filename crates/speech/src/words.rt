@@ -13,7 +13,7 @@ impl fmt::Display for Status {
     }
 }
 
-// An answer's: 10 stands for any but 00 to 09.
+// An answer's: 10 stands for any but 00 to 09, and is what a reader has always been shown.
 impl From<Option<u8>> for Status {
     fn from(status: Option<u8>) -> Status {
         Status(status.unwrap_or(10))

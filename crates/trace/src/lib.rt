@@ -50,6 +50,7 @@ pub fn feed(
             taken = at;
             break;
         }
+        // no `chunks_exact_mut`: of a part that it lends a proof knows the length alone
         let end = wrote + ANSWER_BYTES;
         current = finish(current, shadow, table, &mut room[wrote..end]);
         wrote = end;

@@ -1,5 +1,5 @@
--- The invariant: where the rules lead from here over what is left, they lead from the beginning over the piece; and what
--- is lent is still the caller's. The measure is what is left.
+-- The invariant: where the rules lead from here over what is left, they lead from the beginning over the piece; and
+-- what is lent is still the caller's. The measure is what is left.
 use Rattle.std.proofs.Common.{◌≡◌, ℕ, List, length}
 use Rattle.offers.specs.declared.offer.Run.{Run}
 use Rattle.offers.specs.Offer.{Leads}
