@@ -88,28 +88,27 @@ pub fn oldest_with(table: &[u32], before: Option<usize>, row: usize) -> Option<u
 
 // What was found in the rows before `row`, and in it.
 #[tactic(auto, using(crate::proofs::Survey::survey_next), unfolding(rules::specs::Release::starts_at))]
-fn with_row(table: &[u32], redzone: usize, address: u32, row: usize, seen: Seen) -> Seen
+fn with_row(table: &[u32], redzone: usize, address: u32, row: usize, mut seen: Seen) -> Seen
     requires { SurveySoFar redzone table.now address row seen }
     ensures { result ≡ surveyed redzone table.now address (row + 1) }
 {
     let start = GRANULE as u64 * number(table, row, START_COLUMN) as u64;
     let here = start == address as u64;
     match number(table, row, STATE_COLUMN) {
-        LIVE => Seen {
-            live: seen.live.or(here.then_some(row)),
-            ..seen
-        },
-        QUARANTINED => Seen {
-            again: seen.again | here,
-            count: seen.count + 1,
-            weight: seen.weight + weight_of(redzone, number(table, row, SIZE_COLUMN)),
-            oldest: oldest_with(table, seen.oldest, row),
-            ..seen
-        },
-        _ => seen,
+        LIVE => seen.live = seen.live.or(here.then_some(row)),
+        QUARANTINED => {
+            seen.again |= here;
+            seen.count += 1;
+            seen.weight += weight_of(redzone, number(table, row, SIZE_COLUMN));
+            seen.oldest = oldest_with(table, seen.oldest, row);
+        }
+        _ => {}
     }
+    seen
 }
 
+// Not inlined: its loop is as fast wherever it is called.
+#[inline(never)]
 #[tactic(auto, using(crate::proofs::Survey::survey_walk), unfolding(rules::specs::Table::rows))]
 pub fn survey(table: &[u32], redzone: usize, address: u32) -> Seen
     requires { TableLent redzone table.now }

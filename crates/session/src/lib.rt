@@ -61,10 +61,16 @@ pub fn fresh(granules: usize, rows: usize, redzone: usize, quarantine: u32) -> S
 }
 
 // The places from `used` on are zero: two fields of the session, which crosses to C.
+#[tactic(auto, using(crate::proofs::Unused::unused))]
 fn unused_zero(line: [u8; 18], used: usize) -> bool
     ensures { result ≡ unused_zero line used }
 {
-    line.iter().skip(used).all(|&byte| byte == 0)
+    for place in used..FRAME_DIGITS {
+        if line[place] != 0 {
+            return false;
+        }
+    }
+    true
 }
 
 fn unfinished_within(unfinished: usize) -> bool
@@ -96,14 +102,12 @@ pub fn fits_lent(session: Session, shadow: &[u8], table: &[u32]) -> bool
 
 // The same session with no unfinished line.
 #[tactic(auto, unfolding(rules::specs::Feed::emptied))]
-pub fn emptied(session: Session) -> Session
+pub fn emptied(mut session: Session) -> Session
     ensures { result ≡ emptied session }
 {
-    Session {
-        unfinished: 0,
-        line: [0; 18],
-        ..session
-    }
+    session.unfinished = 0;
+    session.line = [0; 18];
+    session
 }
 
 // The unfinished line with one byte more: its first 18 bytes are kept, and 19 stands for 19 or more.

@@ -1,0 +1,2 @@
+-- The unused places of a line, one after the other.
+pub mod Unused
