@@ -6,12 +6,13 @@ ghost use Rattle.std.specs.Prelude.{◌≤◌, ◌≡◌, length};
 ghost use Rattle.rules.specs.Limits.{most_granules};
 ghost use Rattle.rules.specs.Grant.{acted, counted, granted_row, grant};
 ghost use Rattle.rules.specs.Release.{release};
-ghost use Rattle.rules.specs.Watcher.{access, act};
+ghost use Rattle.rules.specs.Watcher.{access};
 ghost use Rattle.rules.specs.Calls.{Lent};
+ghost use Rattle.pool.specs.Acting.{act_or_answer};
 
 use blocks::rows;
 use rules::limits::{GRANULE, LIVE};
-use rules::{Answer, Asked, Frame, Refusal, Row, Session};
+use rules::{Answer, Frame, Refusal, Row, Session};
 use shadow::range;
 
 // A size of 0 counts as 1.
@@ -58,7 +59,8 @@ pub fn release(session: Session, shadow: &mut [u8], table: &mut [u32], address: 
     quarantine::release(shadow, table, session.redzone, session.quarantine, address)
 }
 
-// Reads and writes are judged alike.
+// Reads and writes are judged alike. Not inlined, as `rows::survey`: its loop is as fast wherever it is called.
+#[inline(never)]
 #[tactic(auto, unfolding(rules::specs::Watcher::access, rules::specs::Watcher::of_verdict))]
 pub fn access(shadow: &[u8], address: u32, bytes: u32) -> Answer
     requires { length shadow.now ≤ most_granules }
@@ -74,18 +76,24 @@ pub fn access(shadow: &[u8], address: u32, bytes: u32) -> Answer
     }
 }
 
-// What a line asks, done; a line that asks nothing is answered with its refusal.
-#[tactic(auto, unfolding(rules::specs::Watcher::act))]
-pub fn act(session: Session, shadow: &mut [u8], table: &mut [u32], asked: Asked) -> Answer
+// What a frame does; an answer in its place, such as a line's refusal, is given as it stands.
+#[tactic(auto, unfolding(crate::specs::Acting::act_or_answer, rules::specs::Watcher::act))]
+pub fn act(
+    session: Session,
+    shadow: &mut [u8],
+    table: &mut [u32],
+    asked: Result<Frame, Answer>,
+) -> Answer
     requires { Lent session shadow.old table.old }
     ensures { acted result shadow.new table.new
-        ≡ act session shadow.old table.old asked }
+        ≡ act_or_answer session shadow.old table.old asked }
 {
-    match asked? {
-        Frame::Grant { size } => grant(session, shadow, table, size),
-        Frame::Release { address } => release(session, shadow, table, address),
-        Frame::Read { address, length } | Frame::Write { address, length } => {
+    match asked {
+        Ok(Frame::Grant { size }) => grant(session, shadow, table, size),
+        Ok(Frame::Release { address }) => release(session, shadow, table, address),
+        Ok(Frame::Read { address, length } | Frame::Write { address, length }) => {
             access(shadow, address, length)
         }
+        Err(answer) => answer,
     }
 }

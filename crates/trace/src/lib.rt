@@ -6,11 +6,23 @@ ghost use Rattle.std.specs.Prelude.{◌≡◌};
 ghost use Rattle.rules.specs.Feed.{finish};
 ghost use Rattle.rules.specs.Watcher.{watcher, state_of};
 ghost use Rattle.rules.specs.Calls.{Lent};
+ghost use Rattle.pool.specs.Acting.{in_answers};
 ghost use Rattle.trace.specs.Feed.{Finishing, ran, fed, fed_of};
 
 use frames::lines;
 use rules::limits::{ANSWER_BYTES, LINE_FEED};
-use rules::{Fed, Session};
+use rules::{Answer, Asked, Fed, Frame, Session};
+
+// What a line asks, its refusal an answer.
+#[tactic(auto, unfolding(pool::specs::Acting::in_answers))]
+fn in_answers(asked: Asked) -> Result<Frame, Answer>
+    ensures { result ≡ in_answers asked }
+{
+    match asked {
+        Ok(frame) => Ok(frame),
+        Err(refusal) => Err(Err(refusal)),
+    }
+}
 
 // A finished line is acted on and answered in the 13 bytes lent, and its session has an empty line.
 pub fn finish(session: Session, shadow: &mut [u8], table: &mut [u32], part: &mut [u8]) -> Session
@@ -19,7 +31,7 @@ pub fn finish(session: Session, shadow: &mut [u8], table: &mut [u32], part: &mut
         ≡ finish watcher (state_of session shadow.old table.old) }
 {
     let asked = lines::frame_of_line(session.unfinished, session.line);
-    let answer = pool::act(session, shadow, table, asked);
+    let answer = pool::act(session, shadow, table, in_answers(asked));
     answers::put_answer(part, answer);
     session::emptied(session)
 }

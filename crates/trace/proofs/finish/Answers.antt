@@ -7,6 +7,8 @@ use Rattle.rules.specs.Release.{Pool}
 use Rattle.rules.specs.Frames.{answer_line}
 use Rattle.rules.specs.Feed.{Ran, emptied, act_line, finish}
 use Rattle.rules.specs.Watcher.{act}
+use Rattle.pool.specs.Acting.{act_or_answer}
+use Rattle.pool.proofs.Acting.{act_asked}
 use Rattle.trace.specs.Feed.{ran}
 use Rattle.trace.proofs.finish.Goals as goal
 
@@ -22,5 +24,7 @@ returns c =
     ap (ran c.emptied.result after.shadow after.table) c.put_answer.ensures
     ∙ ap (λ s. ran s after.shadow after.table (answer_line c.act-answer.result)) c.emptied.ensures
     ∙ ap (finished (emptied session))
-    (c.act-answer.ensures ∙ ap (act session c.args.shadow.now c.args.table.now)
-    c.frame_of_line-asked.ensures)
+    (c.act-answer.ensures
+    ∙ ap (act_or_answer session c.args.shadow.now c.args.table.now) c.in_answers.ensures
+    ∙ act_asked session c.args.shadow.now c.args.table.now c.frame_of_line-asked.result
+    ∙ ap (act session c.args.shadow.now c.args.table.now) c.frame_of_line-asked.ensures)
