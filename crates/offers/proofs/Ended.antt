@@ -26,24 +26,28 @@ unfolding left
 left_within session within = ap said (unfinished_done session within)
 
 -- 0 is told of a pass alone, and 1 of a fail
-told_pass : (run : Run) (r : Result Outcome Stopped) → Ends run r → told r ≡ 0
+told_pass : (run : Run) (r : Result Outcome Stopped) → Ends (Ok run) r → told r ≡ 0
     → verdict run.tally (left run.session) ≡ Pass
 told_pass run (Ok Pass) ends e = sym ends
 told_pass run (Ok Fail) ends e = absurd (omega arith)
 told_pass run (Err stopped) ends e = absurd (omega arith)
 
-told_fail : (run : Run) (r : Result Outcome Stopped) → Ends run r → told r ≡ 1
+told_fail : (run : Run) (r : Result Outcome Stopped) → Ends (Ok run) r → told r ≡ 1
     → verdict run.tally (left run.session) ≡ Fail
 told_fail run (Ok Pass) ends e = absurd (omega arith)
 told_fail run (Ok Fail) ends e = sym ends
 told_fail run (Err stopped) ends e = absurd (omega arith)
 
 -- an error is neither verdict
-pub ends_stopped : (ran : Run) (stopped : Stopped) → Ends ran (Err stopped)
+pub ends_stopped : (ran : Run) (stopped : Stopped) → Ends (Ok ran) (Err stopped)
 ends_stopped ran stopped = tt
 
+-- so neither is told of a replay that was stopped
+pub stopped_told : (stopped : Stopped) (r : Result Outcome Stopped) → Ends (Err stopped) r → told r ≡ 2
+stopped_told stopped r ends = ap told ends
+
 pub ends_judged : (ran : Run) (r : Outcome) (length : ℕ) → length ≡ left ran.session → r ≡ verdict ran.tally length
-    → Ends ran (Ok r)
+    → Ends (Ok ran) (Ok r)
 ends_judged ran r length is judged = judged ∙ ap (verdict ran.tally) is
 
 -- ---- the verdict of all that was offered
@@ -69,13 +73,13 @@ module _ (begun : Run) {shadow table text shadow_after table_after : List ℕ} {
   -- so 0 is told of a text whose every line was done, and whose last line is finished
   pub ended_passed : (r : Result Outcome Stopped) → begun.tally ≡ none → fits_lent begun.session shadow table ≡ true
       → Leads begun shadow table text ran shadow_after table_after
-      → Ends ran r → told r ≡ 0 → Passed (state_of begun.session shadow table) text
+      → Ends (Ok ran) r → told r ≡ 0 → Passed (state_of begun.session shadow table) text
   ended_passed r fresh fits leads ends e = passed _ text (sym (ended fresh fits leads) ∙ told_pass ran r ends e)
 
   -- and 1 is told of one that is not
   pub ended_not_passed : (r : Result Outcome Stopped) → begun.tally ≡ none
       → fits_lent begun.session shadow table ≡ true
       → Leads begun shadow table text ran shadow_after table_after
-      → Ends ran r → told r ≡ 1 → Passed (state_of begun.session shadow table) text → ⊥
+      → Ends (Ok ran) r → told r ≡ 1 → Passed (state_of begun.session shadow table) text → ⊥
   ended_not_passed r fresh fits leads ends e =
       not_passed _ text (sym (ended fresh fits leads) ∙ told_fail ran r ends e)

@@ -1,7 +1,7 @@
 -- What a feed's answer leads to, and a piece taken part by part. Assumes nothing.
 use Prim.Native.Nat.{ℕ, ◌-◌}
 use native.Mathlib.Omega.{arith}
-use mathlib.Core.Path.{◌≡◌, refl, ap, subst}
+use mathlib.Core.Path.{◌≡◌, refl, ap, subst, ◌∙◌}
 use mathlib.Core.Bool.{true}
 use mathlib.Core.List.{List, [], ◌++◌}
 use lib.ListN.{length, take, drop}
@@ -21,7 +21,7 @@ use Rattle.rules.proofs.Calls.{feed_done, feed_24}
 use Rattle.tally.proofs.Parts.{with_report_append, with_report_none}
 use Rattle.watcher.specs.Calls.{FeedCall}
 use Rattle.offers.specs.declared.offer.Run.{Run}
-use Rattle.offers.specs.Offer.{Kept, Leads, Taken}
+use Rattle.offers.specs.Offer.{Kept, Leads, Taken, SameLengths}
 
 -- ---- what a feed's answer leads to
 
@@ -97,3 +97,14 @@ leads_on before {shadow} {table} {shadow_after = shadow_after} {table_after = ta
     grind (arith, common_steps, taken.most) in
     subst (λ text. Leads before shadow table text r shadow_after table_after) same
     (leads_append before (take n (take m left)) (take (length left - n) (drop n left)) taken.leads two)
+
+-- ---- what is lent
+
+-- lengths that two parts keep, one after the other, both keep
+pub lengths_further : {s t r s1 t1 r1 s2 t2 r2 : List ℕ} → SameLengths s t r s1 t1 r1 → SameLengths s1 t1 r1 s2 t2 r2
+    → SameLengths s t r s2 t2 r2
+lengths_further before after = record {
+  shadow_length = after.shadow_length ∙ before.shadow_length;
+  table_length = after.table_length ∙ before.table_length;
+  room_length = after.room_length ∙ before.room_length;
+}

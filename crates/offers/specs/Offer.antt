@@ -39,6 +39,12 @@ pub record Taken (before : Run) (shadow table part : List ℕ) (r : Run) (taken 
   pub most : taken ≤ length part
   pub leads : Leads before shadow table (take taken part) r shadow_after table_after
 
+-- what is lent keeps its lengths
+pub record SameLengths (shadow table room shadow_after table_after room_after : List ℕ) : Type 0 where
+  pub shadow_length : length shadow_after ≡ length shadow
+  pub table_length : length table_after ≡ length table
+  pub room_length : length room_after ≡ length room
+
 -- a length that a call says, or 19 where it says none
 abbrev pub said : CallAnswer → ℕ
 said (Ok (Ok length)) = length
@@ -49,9 +55,11 @@ said (Err refusal) = too_long
 unfoldable pub left : Session → ℕ
 left session = said (unfinished_call session)
 
--- how a run ends: with its tally's verdict, or at an error, which is neither
-abbrev pub Ends : Run → Result Outcome Stopped → Type 0
-Ends run r = IfOk r (λ outcome. outcome ≡ verdict run.tally (left run.session))
+-- how a replay ends: a run that was written whole with its tally's verdict, or at an error, which is neither; one that
+-- was stopped at the error that stopped it
+abbrev pub Ends : Result Run Stopped → Result Outcome Stopped → Type 0
+Ends (Ok run) r = IfOk r (λ outcome. outcome ≡ verdict run.tally (left run.session))
+Ends (Err stopped) r = r ≡ Err stopped
 
 -- the number that is told of an end
 abbrev pub told : Result Outcome Stopped → ℕ

@@ -1,6 +1,6 @@
 // Offering a piece of the trace to the watcher until all of it is taken, the report written as it comes.
 ghost use Rattle.std.specs.Prelude.{◌≡◌, ◌<◌, ◌≤◌, length, IfOk};
-ghost use Rattle.offers.specs.Offer.{Kept, Leads, Taken};
+ghost use Rattle.offers.specs.Offer.{Kept, Leads, Taken, SameLengths};
 
 use rules::limits::LINE_FEED;
 use rules::{Fed, Session};
@@ -119,6 +119,8 @@ fn feed(
     ensures same_shadow { lent.new.shadow.ghost_name ≡ lent.old.shadow.ghost_name }
     ensures same_table { lent.new.table.ghost_name ≡ lent.old.table.ghost_name }
     ensures same_room { lent.new.room.ghost_name ≡ lent.old.room.ghost_name }
+    ensures lengths { SameLengths lent.old.shadow.now lent.old.table.now lent.old.room.now
+        lent.new.shadow.now lent.new.table.now lent.new.room.now }
 {
     let asked = run.session;
     let fed = watcher::feed(asked, lent.shadow, lent.table, part, lent.room);
@@ -139,6 +141,8 @@ pub fn all(
     ensures same_shadow { lent.new.shadow.ghost_name ≡ lent.old.shadow.ghost_name }
     ensures same_table { lent.new.table.ghost_name ≡ lent.old.table.ghost_name }
     ensures same_room { lent.new.room.ghost_name ≡ lent.old.room.ghost_name }
+    ensures lengths { SameLengths lent.old.shadow.now lent.old.table.now lent.old.room.now
+        lent.new.shadow.now lent.new.table.now lent.new.room.now }
 {
     let mut run = run;
     // no `for`: how much is taken is known only once a part was offered

@@ -113,10 +113,15 @@ fn reached(files: &impl Files, err: &impl Print) -> Result<(), Stopped> {
     }
 }
 
-// What is said at the end of a trace that was answered and written whole.
-pub fn verdict(files: &impl Files, err: &impl Print, run: Run) -> Result<Outcome, Stopped>
-    ensures { Ends run result }
+// What is said at the end of a trace that was answered and written whole; of a replay that was stopped, all has been.
+pub fn verdict(
+    files: &impl Files,
+    err: &impl Print,
+    ran: Result<Run, Stopped>,
+) -> Result<Outcome, Stopped>
+    ensures { Ends ran result }
 {
+    let run = ran?;
     reached(files, err)?;
     let tally = run.tally;
     let left = unfinished(run.session);

@@ -70,8 +70,8 @@ fn replay(
         progress: options.progress,
     };
     let begun = offer::begun(opened.session);
-    let run = pieces(&mut rt.reader(), &streams, lent, begun, piece)?;
-    summary::verdict(rt, err, run)
+    let ran = pieces(&mut rt.reader(), &streams, lent, begun, piece);
+    summary::verdict(rt, err, ran)
 }
 
 // The buffers, as long as the options ask.

@@ -1,6 +1,6 @@
 -- Nothing leads nowhere, and each part that is offered leads on.
 use Rattle.std.proofs.Common.{rules}
-use Rattle.offers.proofs.Pieces.{leads_nothing, leads_on}
+use Rattle.offers.proofs.Pieces.{leads_nothing, leads_on, lengths_further}
 use Rattle.offers.proofs.offer.all.Goals as goal
 
 pub loop-left-preserved : goal.loop-left-preserved
@@ -11,6 +11,7 @@ loop-left-preserved g c = record {
   same_shadow = search rules;
   same_table = search rules;
   same_room = search rules;
+  lengths = lengths_further c.loop-left.invariant.lengths c.in_ok-next.ensures.lengths;
 }
 
 pub returns-clause-leads : goal.returns-clause-leads

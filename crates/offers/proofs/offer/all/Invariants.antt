@@ -2,7 +2,7 @@
 -- what is lent is still the caller's. The measure is what is left.
 use Rattle.std.proofs.Common.{◌≡◌, ℕ, List, length}
 use Rattle.offers.specs.declared.offer.Run.{Run}
-use Rattle.offers.specs.Offer.{Leads}
+use Rattle.offers.specs.Offer.{Leads, SameLengths}
 use Rattle.offers.proofs.offer.all.Given as goal
 
 abbrev pub invariant-loop-left : goal.invariant-loop-left
@@ -12,6 +12,8 @@ invariant-loop-left g l = record {
   same_shadow : l.lent.shadow.ghost_name ≡ l.fn.lent.shadow.ghost_name;
   same_table : l.lent.table.ghost_name ≡ l.fn.lent.table.ghost_name;
   same_room : l.lent.room.ghost_name ≡ l.fn.lent.room.ghost_name;
+  lengths : SameLengths l.fn.lent.shadow.now l.fn.lent.table.now l.fn.lent.room.now
+      l.lent.shadow.now l.lent.table.now l.lent.room.now;
 }
 
 abbrev pub decreases-loop-left : goal.decreases-loop-left
