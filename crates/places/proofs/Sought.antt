@@ -12,7 +12,7 @@ use borrow.Author.Tests.{eq-eqb}
 use Rattle.std.specs.Prelude.{Option, None, Some}
 use Rattle.rules.specs.Limits.{redzone_byte}
 use Rattle.rules.specs.Lowest.{lowest, found, all_equal, lowest_zero, lowest_here, lowest_later}
-use Rattle.rules.specs.Grant.{fits, place, Fits}
+use Rattle.rules.specs.Grant.{fits, place, AllFree, Fits}
 use Rattle.rules.proofs.Tests.{by_order, by_test}
 use Rattle.rules.proofs.Lowest.{NonePasses, lowest_skip, lowest_no, all_equal_true}
 
@@ -42,6 +42,18 @@ window_next list v i n k below same =
     ∙ ap (λ o. not (found o))
     (lowest_later other (n - (k + 1)) (i + k) (ap not (eq-eqb (get_or list (i + k) 0) v same)))
     ∙ ap (λ j. not (found (lowest other (n - (k + 1)) j))) next
+
+-- no place fits whose window begins before start
+pub record Sought (shadow : List ℕ) (R u start : ℕ) : Type 0 where
+  pub upto : start ≤ length shadow
+  pub before : (q : ℕ) → q < start + R → Fits shadow R u q → ⊥
+
+-- and the first k bytes of the window that begins there are fa
+pub record Windowed (shadow : List ℕ) (R u start k : ℕ) : Type 0 where
+  pub sought : Sought shadow R u start
+  pub room : R + u + R ≤ length shadow - start
+  pub upto : k ≤ R + u + R
+  pub free : AllFree shadow start (start + k)
 
 module _ (shadow : List ℕ) (R u : ℕ) where
   -- the lowest place whose window begins at the start or after it
@@ -90,9 +102,20 @@ module _ (shadow : List ℕ) (R u : ℕ) where
       ∙ ap₂ (lowest (fits shadow R u)) (omega arith) (omega arith)
 
   -- so no place lies between the two
-  pub windowed_past : (start k : ℕ) → k < R + u + R → get_or shadow (start + k) 0 ≢ redzone_byte → (q : ℕ)
+  pub windowed_between : (start k : ℕ) → k < R + u + R → get_or shadow (start + k) 0 ≢ redzone_byte → (q : ℕ)
       → start + R ≤ q → q < start + k + 1 + R → Fits shadow R u q → ⊥
-  windowed_past start k within other q from below f = other (f.free (start + k) (omega arith) (omega arith))
+  windowed_between start k within other q from below f = other (f.free (start + k) (omega arith) (omega arith))
+
+  -- and where none lay before the start, none lies before what follows that byte
+  pub windowed_past : (start k : ℕ) → Windowed shadow R u start k → k < R + u + R
+      → get_or shadow (start + k) 0 ≢ redzone_byte → Sought shadow R u (start + k + 1)
+  windowed_past start k w within other = record {
+    upto = omega (arith, w.sought.upto, w.room);
+    before = λ q below f.
+        by_order q (start + R)
+        (λ less. w.sought.before q less f)
+        (λ more. windowed_between start k within other q more below f);
+  }
 
 -- for the loops' goals
 pub ruleset walked = (window_next, sought_none, sought_all, sought_here)
