@@ -1,5 +1,7 @@
 // Tables of four rows, a word a row and a letter a number: "2d10" is the row (2, 13, 1, 0). F stands for ffffffff,
 // E for fffffffe, G for 20000002, H for 1fffffff and I for 20000000.
+ghost use Rattle.std.specs.Prelude.{◌≤◌, length};
+
 use crate::case::digit;
 use rules::limits::ROW_NUMBERS;
 use std::array;
@@ -30,7 +32,9 @@ pub fn table_of(letters: &[u8]) -> [u32; NUMBERS] {
 }
 
 // The bytes of a word, of two digits each, as many as there is room for: "." is a word of none.
-pub fn bytes_of<'a>(letters: &[u8], room: &'a mut [u8; 16]) -> &'a [u8] {
+pub fn bytes_of<'a>(letters: &[u8], room: &'a mut [u8; 16]) -> &'a [u8]
+    ensures { length result.now ≤ 16 }
+{
     let mut pairs = letters.chunks(2);
     for (i, byte) in room.iter_mut().enumerate() {
         *byte = match pairs.next() {

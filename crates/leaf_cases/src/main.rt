@@ -14,6 +14,8 @@ mod release_cases;
 mod rows_cases;
 mod shadow_cases;
 
+ghost use Rattle.std.specs.Prelude.{◌≤◌, length, IfOk};
+
 use cases::case::Case;
 use cases::show;
 use std::io;
@@ -43,7 +45,9 @@ fn walk(out: &impl Print, text: &[u8]) {
 }
 
 // Reads until the text is full or the input ends: no `for`, since a read may give any number of bytes.
-fn read_full<'a>(input: &mut impl Read, text: &'a mut [u8]) -> io::Result<&'a [u8]> {
+fn read_full<'a>(input: &mut impl Read, text: &'a mut [u8]) -> io::Result<&'a [u8]>
+    ensures { IfOk result (λ part. length part.now ≤ length text.old) }
+{
     let mut count = 0;
     while count < text.len() {
         match input.read(&mut text[count..])? {
